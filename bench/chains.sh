@@ -1,8 +1,8 @@
 #!/bin/sh
 # That no chain of casts, calls, indices, commas, suffixes, stars, operators, statements or typedef names overflows a stack of
 # 2 MiB, nor one of them within as many operators or blocks as may stand in one another: each is built, and evaluated, with
-# 100, LINKS, one more and 500000 links (of typedef names 100000, since a source has 4 MiB at most), where LINKS is the most
-# that are read. The status, which is never that of a signal, is told beside the time of the build in milliseconds. It is no
+# 100, LINKS, one more and 500000 links (of typedef names 100000, since a source has 4 MiB at most), where LINKS is the limit
+# of links; a typedef name has a limit of its own, 250 derivations. The status, which is never that of a signal, is told beside the time of the build in milliseconds. It is no
 # part of the gate.
 set -eu
 top=$(CDPATH= cd -- "$(dirname -- "$0")/.." && pwd)
@@ -15,6 +15,10 @@ LINKS=512
 # as many of them as stand in one another, in a row
 many() { # TEXT
     awk -v text="$1" 'BEGIN { for (i = 0; i < 190; i++) printf "%s", text }'
+}
+# a row of as many typedef names as may stand in one another
+row() {
+    awk 'BEGIN { printf "typedef int t0;"; for (i = 0; i < 250; i++) printf " typedef t%d *t%d;", i, i + 1 }'
 }
 # name, front, link and end as formats (of the link's number and the next one, and of the last one), most links
 chain() {
@@ -61,6 +65,8 @@ chain names 'int a' ', a' '; int main(void) { return 7; }'
 chain enumerators 'enum { a' ', b' '}; int main(void) { return 7; }'
 chain typedefs 'typedef int t0;' ' typedef t%d *t%d;' ' t%d last; int main(void) { return 7; }' 100000
 chain arrays 'typedef int t0;' ' typedef t%d t%d[1];' ' t%d last; int main(void) { return 7; }' 100000
+chain row-suffixes "$(row) t250 a" '[1]' '; int main(void) { return 7; }'
+chain row-stars "$(row) t250 $(many '*')a" '[1]' '; int main(void) { return 7; }'
 chain minus-casts "int main(void) { return $(many '- ')" '(int)' '7; }'
 chain minus-calls "int f(int a) { return a; } int main(void) { return $(many '- ')f(7)" '()' '; }'
 chain minus-indices "int a[2]; int main(void) { return $(many '- ')a" '[0]' '; }'

@@ -121,6 +121,15 @@ def check_long_lines(room):
     says(room, "a long line", line, (f"a.c:1:{len(front) + 6}: {BYTE}", line, under(line[: len(front) + 5])))
 
 
+@test("check tells links over 512 at the first of them, and a typedef name that stands for over 250 derivations")
+def check_chains(room):
+    line = "int a = " + "(int)" * 513 + "1;"
+    says(room, "links", line + "\n", ("a.c:1:2569: links over 512 at '(': more than 512 parentheses, brackets and commas stand in a row", line, under(line[:2568])))
+    row = "typedef int t0;\n" + "".join(f"typedef t{it} *t{it + 1};\n" for it in range(251)) + "int main(void) { return 0; }\n"
+    told = "a.c:252:14: derivations 251 over 250 in 't251': a typedef name stands for at most 250 pointers, arrays and functions"
+    says(room, "derivations", row, (told, "typedef t250 *t251;", under("typedef t250 ")))
+
+
 @test("check says nothing of a source that is right")
 def check_says_nothing(room):
     for source in ("int main(void) { return 0; }\n", '# 1 "b.c"\nint main(void) { putchar(72); return 7; }'):

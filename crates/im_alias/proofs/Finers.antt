@@ -5,7 +5,7 @@ use Rattle.std.proofs.lemmas.Bool.{eqb-true}
 use Rattle.im_block.specs.declared.code.Place.{Place}
 use Rattle.im_block.specs.declared.code.Place.TheVariants.{Static, Local, Through}
 use Rattle.im_block.specs.declared.code.Line.{Line}
-use Rattle.im_block.specs.declared.code.Line.TheVariants.{Put, PutNull, Copy, Convert, Unary, Not, Compute, Compare, Move, Distance, Address, Read, Write, Reload, Spill, Cut, Call, GetChar, PutChar}
+use Rattle.im_block.specs.declared.code.Line.TheVariants.{Put, PutNull, Copy, Convert, Unary, Not, Compute, Compare, Move, Distance, Address, Read, Write, Reload, Spill, Cut, Call, Serve}
 use Rattle.im_block.specs.declared.code.Exit.{Exit}
 use Rattle.im_block.specs.declared.code.Exit.TheVariants.{Jump, Turn, Branch, Return}
 use Rattle.im_block.specs.declared.code.Block.{Block}
@@ -123,8 +123,8 @@ module _ (u : Code) (points : Points) (closed : IsClosed points u) where
   behind_within i sets (Spill slot from access) w h = w
   behind_within i sets (Cut cause) w h = w
   behind_within i sets (Call to callee first count) w h = within_set i sets to (p.result callee) w (result_within i to first count callee (slice_get u.functions.items callee) h)
-  behind_within i sets (GetChar to) w h = within_set i sets to [] w (nothing i to)
-  behind_within i sets (PutChar to from) w h = within_set i sets to [] w (nothing i to)
+  behind_within i sets (Serve to service None) w h = within_set i sets to [] w (nothing i to)
+  behind_within i sets (Serve to service (Some from)) w h = within_set i sets to [] w (nothing i to)
 
   exit_fits : (i : ℕ) (sets : ℕ → List ℕ) (exit : Exit) → Within i sets → Sub (exit_set points i exit) (p.result i) → ExitFits p sets i exit
   exit_fits i sets (Jump b) w h = w

@@ -8,11 +8,12 @@ use Rattle.im_store.specs.Checks.{Checked, Fine, Bad}
 use Rattle.im_store.specs.Objects.{Named, Value, Number, Null, Unset, Store, ends}
 use Rattle.im_store.specs.Statics.{with_statics, static_values}
 use Rattle.im_store.specs.Outcomes.{Outcome}
+use Rattle.im_serve.specs.Services.{serve}
 use Rattle.im_block.specs.declared.access.Tags.{Tags}
 use Rattle.im_block.specs.declared.code.Place.{Place}
 use Rattle.im_block.specs.declared.code.Place.TheVariants.{Static, Local, Through}
 use Rattle.im_block.specs.declared.code.Line.{Line}
-use Rattle.im_block.specs.declared.code.Line.TheVariants.{Put, PutNull, Copy, Convert, Unary, Not, Compute, Compare, Move, Distance, Address, Read, Write, Reload, Spill, Cut, Call, GetChar, PutChar}
+use Rattle.im_block.specs.declared.code.Line.TheVariants.{Put, PutNull, Copy, Convert, Unary, Not, Compute, Compare, Move, Distance, Address, Read, Write, Reload, Spill, Cut, Call, Serve}
 use Rattle.im_block.specs.declared.code.Exit.{Exit}
 use Rattle.im_block.specs.declared.code.Exit.TheVariants.{Jump, Turn, Branch, Return}
 use Rattle.im_block.specs.declared.code.Block.{Block}
@@ -20,7 +21,7 @@ use Rattle.im_block.specs.declared.unit.Registers.{Registers}
 use Rattle.im_block.specs.declared.unit.Registers.TheVariants.{Virtual, Machine}
 use Rattle.im_block.specs.declared.unit.Function.{Function}
 use Rattle.im_block.specs.declared.unit.Unit.{Unit as Code}
-use Rattle.im_block.specs.Meaning.{Setting, Event, Active, Frame, State, Next, Goes, Stops, on_checked, takes, found, kept, kept_by, with_register, sets, computes, begun_by, waiting, passed, enters, served, gets, does, goes_to, back, leaves, step_at, step, number_of, condition, returned, next_active, statics_of}
+use Rattle.im_block.specs.Meaning.{Setting, Event, Active, Frame, State, Next, Goes, Stops, on_checked, takes, found, kept, kept_by, with_register, sets, computes, begun_by, waiting, passed, enters, served, does, goes_to, back, leaves, step_at, step, number_of, condition, returned, next_active, statics_of}
 use Rattle.im_block.specs.Runs.{start, before, Over, goes_on, exec}
 use Rattle.im_block.specs.Sections.{Has}
 use Rattle.im_block.specs.Tagged.{tag_of, AllHold, IsSound}
@@ -248,10 +249,6 @@ module _ (u : Code) (p : PointsAt) (tags : Tags) (closed : IsClosedAt p u) (tagg
     (tt, tt),
   )
 
-  gets_good : (s : State) (to : ℕ) (rest : List Line) (input : List ℕ) (fuel : ℕ) → (ok : Ok s) → Rest (with_set ok.frame.sets to []) s.frame.function rest s.frame.spot.exit → Good (gets u g to rest input fuel s)
-  gets_good s to rest [] fuel ok r = served_good s to (Number (negsuc 0)) rest [] s.output fuel ok tt r
-  gets_good s to rest (byte ∷ input) fuel ok r = served_good s to (Number (pos byte)) rest input s.output fuel ok tt r
-
   value_now : (P : ℕ → Type 0) (v w : Value) → ValueIn P v → Fine v ≡ Fine w → ValueIn P w
   value_now P v w h e = let same : v ≡ w = cc in subst (ValueIn P) same h
 
@@ -296,13 +293,15 @@ module _ (u : Code) (p : PointsAt) (tags : Tags) (closed : IsClosedAt p u) (tagg
   does_good s (Cut cause) rest e ok r =
       (record { frame = record { sets = ok.frame.sets; registers = ok.frame.registers; rest = r }; callers = ok.callers; store = ok.store }, (tt, tt))
   does_good s (Call to callee first count) rest e ok r = call_good s to callee first count rest e ok
-  does_good s (GetChar to) rest e ok r = takes_good s.fuel s.output _ (λ less. gets_good s to rest s.input less ok r)
-  does_good s (PutChar to from) rest e ok r =
+  does_good s (Serve to service None) rest e ok r =
+      takes_good s.fuel s.output _ (λ less.
+      let reply = serve service g.capacity (pos 0) s.input s.output in
+      served_good s to (Number reply.value) rest reply.input reply.output less ok tt r)
+  does_good s (Serve to service (Some from)) rest e ok r =
       takes_good s.fuel s.output _ (λ less.
       checked_good (number_of (s.frame.registers from)) _ (λ z is.
-      either_good (nat_lt (length s.output) g.capacity) _ _
-      (served_good s to (Number (pos (nat_abs (wrap U8 z)))) rest s.input (s.output ++ nat_abs (wrap U8 z) ∷ []) less ok tt r)
-      (served_good s to (Number (negsuc 0)) rest s.input s.output less ok tt r)))
+      let reply = serve service g.capacity z s.input s.output in
+      served_good s to (Number reply.value) rest reply.input reply.output less ok tt r))
 
   step_good : (s : State) (lines : List Line) → s.frame.spot.rest ≡ lines → Ok s → Good (step_at u g lines s)
   step_good s [] e ok = leaves_good s s.frame.spot.exit refl e ok

@@ -7,7 +7,7 @@ use Rattle.im_block.specs.declared.access.Tags.{Tags}
 use Rattle.im_block.specs.declared.code.Place.{Place}
 use Rattle.im_block.specs.declared.code.Place.TheVariants.{Static, Local, Through}
 use Rattle.im_block.specs.declared.code.Line.{Line}
-use Rattle.im_block.specs.declared.code.Line.TheVariants.{Put, PutNull, Copy, Convert, Unary, Not, Compute, Compare, Move, Distance, Address, Read, Write, Reload, Spill, Cut, Call, GetChar, PutChar}
+use Rattle.im_block.specs.declared.code.Line.TheVariants.{Put, PutNull, Copy, Convert, Unary, Not, Compute, Compare, Move, Distance, Address, Read, Write, Reload, Spill, Cut, Call, Serve}
 use Rattle.im_block.specs.declared.code.Exit.{Exit}
 use Rattle.im_block.specs.declared.code.Exit.TheVariants.{Jump, Turn, Branch, Return}
 use Rattle.im_block.specs.declared.unit.Function.{Function}
@@ -53,8 +53,8 @@ behind_is p sets (Reload to slot access) r = refl
 behind_is p sets (Spill slot from access) r = refl
 behind_is p sets (Cut cause) r = refl
 behind_is p sets (Call to callee first count) r = refl
-behind_is p sets (GetChar to) r = refl
-behind_is p sets (PutChar to from) r = refl
+behind_is p sets (Serve to service None) r = refl
+behind_is p sets (Serve to service (Some from)) r = refl
 
 either_sub : (b : Bool) (x y v w : List ℕ) → Sub x v → Sub y w → Sub (if b then x else y) (if b then v else w)
 either_sub true x y v w h k = h

@@ -1,13 +1,13 @@
 -- What single functions owe: a register gets its set, objects are gone through, accesses get their tags.
 use Rattle.std.proofs.Common.{◌≡◌, ◌≢◌, ℕ, zero, suc, ◌+◌, ◌<◌, List, [], ◌∷◌, ◌++◌, length, get_or, take, Bool, true, false, Option, Some, refl, sym, ap, ◌∙◌, subst, inl, ⊎_elim, arith, eq-eqb}
-use Rattle.std.specs.Prelude.{slice_get, slice_set, ◌||◌, ◌==◌, if◌then◌else◌}
+use Rattle.std.specs.Prelude.{slice_get, slice_set, ◌||◌, ◌==◌, if◌then◌else◌, None}
 use Rattle.std.proofs.lemmas.Bool.{eqb-true}
 use Rattle.std.proofs.lemmas.List.{take_more, length-set}
 use Rattle.std.proofs.lemmas.Option.{slice_get-get_or}
 use Rattle.im_block.specs.declared.access.Tag.{Tag}
 use Rattle.im_block.specs.declared.access.Tags.{Tags}
 use Rattle.im_block.specs.declared.code.Line.{Line}
-use Rattle.im_block.specs.declared.code.Line.TheVariants.{Put, PutNull, Copy, Convert, Unary, Not, Compute, Compare, Move, Distance, Address, Read, Write, Reload, Spill, Cut, Call, GetChar, PutChar}
+use Rattle.im_block.specs.declared.code.Line.TheVariants.{Put, PutNull, Copy, Convert, Unary, Not, Compute, Compare, Move, Distance, Address, Read, Write, Reload, Spill, Cut, Call, Serve}
 use Rattle.im_block.specs.Sections.{Has}
 use Rattle.im_block.specs.Wellformed.{LineWithin, AreApart}
 use Rattle.im_block_laws.specs.PointsTo.{Sub}
@@ -72,8 +72,8 @@ target_within n to (Reload t slot access) e h = cc
 target_within n to (Spill slot from access) e h = cc
 target_within n to (Cut cause) e h = cc
 target_within n to (Call t callee first count) e h = let k : t ≡ to = cc in let l = h.0 in omega arith
-target_within n to (GetChar t) e h = let k : t ≡ to = cc in omega arith
-target_within n to (PutChar t from) e h = let k : t ≡ to = cc in let l = h.0 in omega arith
+target_within n to (Serve t service None) e h = let k : t ≡ to = cc in omega arith
+target_within n to (Serve t service (Some from)) e h = let k : t ≡ to = cc in let l = h.0 in omega arith
 
 -- objects one after another
 take_has : (xs : List ℕ) (k x : ℕ) → k < length xs → x ≡ get_or xs k 0 → take (k + 1) xs ≡ take k xs ++ x ∷ []

@@ -5,7 +5,7 @@ use Rattle.im_block.specs.declared.access.Tags.{Tags}
 use Rattle.im_block.specs.declared.code.Place.{Place}
 use Rattle.im_block.specs.declared.code.Place.TheVariants.{Static, Local, Through}
 use Rattle.im_block.specs.declared.code.Line.{Line}
-use Rattle.im_block.specs.declared.code.Line.TheVariants.{Put, PutNull, Copy, Convert, Unary, Not, Compute, Compare, Move, Distance, Address, Read, Write, Reload, Spill, Cut, Call, GetChar, PutChar}
+use Rattle.im_block.specs.declared.code.Line.TheVariants.{Put, PutNull, Copy, Convert, Unary, Not, Compute, Compare, Move, Distance, Address, Read, Write, Reload, Spill, Cut, Call, Serve}
 use Rattle.im_block.specs.declared.code.Exit.{Exit}
 use Rattle.im_block.specs.declared.code.Exit.TheVariants.{Jump, Turn, Branch, Return}
 use Rattle.im_block.specs.declared.code.Block.{Block}
@@ -62,8 +62,7 @@ behind p sets (Reload to slot access) = sets
 behind p sets (Spill slot from access) = sets
 behind p sets (Cut cause) = sets
 behind p sets (Call to callee first count) = with_set sets to (p.result callee)
-behind p sets (GetChar to) = with_set sets to []
-behind p sets (PutChar to from) = with_set sets to []
+behind p sets (Serve to service from) = with_set sets to []
 
 abbrev pub CallFits : PointsAt → (ℕ → List ℕ) → ℕ → ℕ → ℕ → Option Function → Type 0
 CallFits p sets first count callee None = Unit {0}

@@ -6,7 +6,7 @@ use Rattle.im_block.specs.declared.access.Tags.{Tags}
 use Rattle.im_block.specs.declared.code.Place.{Place}
 use Rattle.im_block.specs.declared.code.Place.TheVariants.{Static, Local, Through}
 use Rattle.im_block.specs.declared.code.Line.{Line}
-use Rattle.im_block.specs.declared.code.Line.TheVariants.{Put, PutNull, Copy, Convert, Unary, Not, Compute, Compare, Move, Distance, Address, Read, Write, Reload, Spill, Cut, Call, GetChar, PutChar}
+use Rattle.im_block.specs.declared.code.Line.TheVariants.{Put, PutNull, Copy, Convert, Unary, Not, Compute, Compare, Move, Distance, Address, Read, Write, Reload, Spill, Cut, Call, Serve}
 use Rattle.im_block.specs.declared.code.Block.{Block}
 use Rattle.im_block.specs.declared.unit.Function.{Function}
 use Rattle.im_block.specs.declared.unit.Unit.{Unit as Code}
@@ -49,8 +49,7 @@ target_of (Reload to slot access) = None
 target_of (Spill slot from access) = None
 target_of (Cut cause) = None
 target_of (Call to callee first count) = Some to
-target_of (GetChar to) = Some to
-target_of (PutChar to from) = Some to
+target_of (Serve to service from) = Some to
 
 abbrev pub given_of : PointsAt → (ℕ → List ℕ) → Line → List ℕ
 given_of p sets (Copy to from) = sets from

@@ -44,8 +44,7 @@ fn target(line: Line) -> Option<u32>
         | Line::Address { to, .. }
         | Line::Read { to, .. }
         | Line::Call { to, .. }
-        | Line::GetChar { to }
-        | Line::PutChar { to, .. } => Some(to),
+        | Line::Serve { to, .. } => Some(to),
         Line::Write { .. } | Line::Reload { .. } | Line::Spill { .. } | Line::Cut(_) => None,
     }
 }

@@ -1,9 +1,10 @@
 -- A line that is no call, by its parts.
+use Rattle.std.specs.Prelude.{Some, None}
 use Rattle.std.proofs.Common.{◌≡◌, ℕ, List, refl}
 use Rattle.im_block.specs.declared.code.Place.{Place}
 use Rattle.im_block.specs.declared.code.Place.TheVariants.{Static, Local, Through}
 use Rattle.im_block.specs.declared.code.Line.{Line}
-use Rattle.im_block.specs.declared.code.Line.TheVariants.{Put, PutNull, Copy, Convert, Unary, Not, Compute, Compare, Move, Distance, Address, Read, Write, Reload, Spill, Cut, Call, GetChar, PutChar}
+use Rattle.im_block.specs.declared.code.Line.TheVariants.{Put, PutNull, Copy, Convert, Unary, Not, Compute, Compare, Move, Distance, Address, Read, Write, Reload, Spill, Cut, Call, Serve}
 use Rattle.im_alloc_relation.specs.Homes.{Home, load_place, put_line}
 use Rattle.im_alloc.specs.Parts.{pointer_in, load_some, plain_line}
 
@@ -14,8 +15,8 @@ place_loads h (Through pointer offset) n rest = refl
 
 abbrev pub IsOwn : Line → Type 0
 IsOwn (Call to i first count) = ⊥
-IsOwn (GetChar to) = ⊥
-IsOwn (PutChar to from) = ⊥
+IsOwn (Serve to service None) = ⊥
+IsOwn (Serve to service (Some from)) = ⊥
 IsOwn (Reload to slot access) = ⊥
 IsOwn (Spill slot from access) = ⊥
 IsOwn line = Unit {0}
@@ -38,5 +39,5 @@ plain_is h n (Reload to slot access) rest own = absurd own
 plain_is h n (Spill slot from access) rest own = absurd own
 plain_is h n (Cut cause) rest own = refl
 plain_is h n (Call to i first count) rest own = absurd own
-plain_is h n (GetChar to) rest own = absurd own
-plain_is h n (PutChar to from) rest own = absurd own
+plain_is h n (Serve to service None) rest own = absurd own
+plain_is h n (Serve to service (Some from)) rest own = absurd own

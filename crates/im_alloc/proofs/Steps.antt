@@ -1,10 +1,10 @@
 -- One more argument, line, block or function.
 use Rattle.std.proofs.Common.{◌≡◌, ℕ, zero, suc, ◌+◌, ◌-◌, ◌*◌, ◌<◌, ◌≤◌, Bool, true, false, List, [], ◌∷◌, ◌++◌, refl, sym, ap, ◌∙◌, subst, arith, length, take, drop, get_or, length-drop}
-use Rattle.std.specs.Prelude.{slice_set, All}
+use Rattle.std.specs.Prelude.{slice_set, All, Some, None}
 use Rattle.std.proofs.lemmas.List.Elements.{All-head, All-tail}
 use Rattle.im_num.specs.declared.values.Cause.{Cause}
 use Rattle.im_block.specs.declared.code.Line.{Line}
-use Rattle.im_block.specs.declared.code.Line.TheVariants.{Cut, Call, GetChar, PutChar}
+use Rattle.im_block.specs.declared.code.Line.TheVariants.{Cut, Call, Serve}
 use Rattle.im_block.specs.declared.code.Exit.{Exit}
 use Rattle.im_block.specs.declared.code.Exit.TheVariants.{Jump, Turn, Branch, Return}
 use Rattle.im_block.specs.declared.code.Block.{Block}
@@ -44,8 +44,8 @@ rest_of (suc i) (x ∷ old) d lt = rest_of i old d (omega arith)
 
 behind_is : (exit : Exit) (line : Line) (rest : List Line) → behind exit line (needed exit rest) ≡ left_to_put exit (calls line) rest
 behind_is exit (Call to i first count) rest = refl
-behind_is exit (GetChar to) rest = refl
-behind_is exit (PutChar to from) rest = refl
+behind_is exit (Serve to service None) rest = refl
+behind_is exit (Serve to service (Some from)) rest = refl
 behind_is exit line rest = refl
 
 loop_cut_put : (exit : Exit) (cause : Cause) (rest : List Line) → keeps_loop_cut exit rest ≡ true → loop_cut exit cause (needed exit rest) ≡ Cut cause ∷ needed exit rest

@@ -3,7 +3,7 @@ use Rattle.std.specs.Prelude.{◌≡◌, ◌≤◌, ℕ, ◌+◌, ◌*◌, Bool,
 use Rattle.im_block.specs.declared.code.Place.{Place}
 use Rattle.im_block.specs.declared.code.Place.TheVariants.{Static, Local, Through}
 use Rattle.im_block.specs.declared.code.Line.{Line}
-use Rattle.im_block.specs.declared.code.Line.TheVariants.{Put, PutNull, Copy, Convert, Unary, Not, Compute, Compare, Move, Distance, Address, Read, Write, Cut, Call, GetChar, PutChar}
+use Rattle.im_block.specs.declared.code.Line.TheVariants.{Put, PutNull, Copy, Convert, Unary, Not, Compute, Compare, Move, Distance, Address, Read, Write, Cut, Call, Serve}
 use Rattle.im_block.specs.declared.code.Exit.{Exit}
 use Rattle.im_block.specs.declared.code.Exit.TheVariants.{Turn}
 use Rattle.im_alloc_relation.specs.Homes.{Home, numbers_kept, load, reg, save, on_place, past_cut, needed, put_lines}
@@ -103,8 +103,7 @@ plain_line h n line rest =
 
 abbrev pub calls : Line → Bool
 calls (Call to i first given) = true
-calls (GetChar to) = true
-calls (PutChar to from) = true
+calls (Serve to service from) = true
 calls line = false
 
 abbrev pub left_to_put : Exit → Bool → List Line → List Line

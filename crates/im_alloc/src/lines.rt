@@ -91,13 +91,29 @@ pub(crate) fn push_line(
             };
             push_call(lines, call, home_at(homes, to as usize), number + 2)
         }
-        Line::GetChar { to } => {
-            let call = Line::GetChar { to: 10 };
+        Line::Serve {
+            to,
+            service,
+            from: None,
+        } => {
+            let call = Line::Serve {
+                to: 10,
+                service,
+                from: None,
+            };
             push_call(lines, call, home_at(homes, to as usize), number + 2)
         }
-        Line::PutChar { to, from } => {
+        Line::Serve {
+            to,
+            service,
+            from: Some(from),
+        } => {
             push_into(lines, home_at(homes, from as usize), 10, number)?;
-            let call = Line::PutChar { to: 10, from: 10 };
+            let call = Line::Serve {
+                to: 10,
+                service,
+                from: Some(10),
+            };
             push_call(lines, call, home_at(homes, to as usize), number + 2)
         }
         Line::Reload { .. } | Line::Spill { .. } => Ok(()),
@@ -154,8 +170,5 @@ fn is_loop_cut(exit: Exit, rest: &[Line]) -> bool
 fn is_call(line: Line) -> bool
     ensures { result ≡ calls line }
 {
-    matches!(
-        line,
-        Line::Call { .. } | Line::GetChar { .. } | Line::PutChar { .. }
-    )
+    matches!(line, Line::Call { .. } | Line::Serve { .. })
 }

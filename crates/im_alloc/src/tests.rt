@@ -6,6 +6,7 @@ use crate::place;
 use im_alloc_intervals::Home;
 use im_block::{Block, Exit, Function, Line, Object, Place, Registers, Unit};
 use im_num::{Cause, Kind};
+use im_serve::Service;
 use im_store::{BinaryOp, Comparison, UnaryOp};
 use std::alloc::Global;
 use std::test::Fail;
@@ -271,8 +272,26 @@ fn calls_have_their_arguments_in_order(rt: HostRuntime) -> Result<(), Fail> {
             count: 2,
         },
     )?;
-    push_line(&mut lines, &HOMES, 32, Line::GetChar { to: 1 })?;
-    push_line(&mut lines, &HOMES, 48, Line::PutChar { to: 2, from: 1 })?;
+    push_line(
+        &mut lines,
+        &HOMES,
+        32,
+        Line::Serve {
+            to: 1,
+            service: Service::Getchar,
+            from: None,
+        },
+    )?;
+    push_line(
+        &mut lines,
+        &HOMES,
+        48,
+        Line::Serve {
+            to: 2,
+            service: Service::Putchar,
+            from: Some(1),
+        },
+    )?;
     let want = [
         Line::Cut(Cause::Entry),
         reload(10, 3, 19),
@@ -285,11 +304,19 @@ fn calls_have_their_arguments_in_order(rt: HostRuntime) -> Result<(), Fail> {
         },
         Line::Cut(Cause::Return),
         spill(7, 10, 18),
-        Line::GetChar { to: 10 },
+        Line::Serve {
+            to: 10,
+            service: Service::Getchar,
+            from: None,
+        },
         Line::Cut(Cause::Return),
         spill(1, 10, 34),
         reload(10, 1, 48),
-        Line::PutChar { to: 10, from: 10 },
+        Line::Serve {
+            to: 10,
+            service: Service::Putchar,
+            from: Some(10),
+        },
         Line::Cut(Cause::Return),
         spill(2, 10, 50),
     ];
@@ -346,18 +373,34 @@ fn registers_at_home_are_not_moved(rt: HostRuntime) -> Result<(), Fail> {
 fn a_call_is_put_with_its_cut(rt: HostRuntime) -> Result<(), Fail> {
     let mut lines = Vec::new(rt.alloc());
     let old = [
-        Line::GetChar { to: 1 },
+        Line::Serve {
+            to: 1,
+            service: Service::Getchar,
+            from: None,
+        },
         Line::Cut(Cause::Return),
-        Line::PutChar { to: 2, from: 1 },
+        Line::Serve {
+            to: 2,
+            service: Service::Putchar,
+            from: Some(1),
+        },
         Line::Cut(Cause::Return),
     ];
     let next = push_lines(&mut lines, &HOMES, 0, &old, Exit::Turn(0))?;
     let want = [
-        Line::GetChar { to: 10 },
+        Line::Serve {
+            to: 10,
+            service: Service::Getchar,
+            from: None,
+        },
         Line::Cut(Cause::Return),
         spill(1, 10, 2),
         reload(10, 1, 16),
-        Line::PutChar { to: 10, from: 10 },
+        Line::Serve {
+            to: 10,
+            service: Service::Putchar,
+            from: Some(10),
+        },
         Line::Cut(Cause::Return),
         spill(2, 10, 18),
         Line::Cut(Cause::Return),

@@ -6,7 +6,7 @@ use Rattle.std.proofs.lemmas.List.Elements.{All-head, All-tail}
 use Rattle.im_block.specs.declared.code.Place.{Place}
 use Rattle.im_block.specs.declared.code.Place.TheVariants.{Static, Local, Through}
 use Rattle.im_block.specs.declared.code.Line.{Line}
-use Rattle.im_block.specs.declared.code.Line.TheVariants.{Put, PutNull, Copy, Convert, Unary, Not, Compute, Compare, Move, Distance, Address, Read, Write, Reload, Spill, Cut, Call, GetChar, PutChar}
+use Rattle.im_block.specs.declared.code.Line.TheVariants.{Put, PutNull, Copy, Convert, Unary, Not, Compute, Compare, Move, Distance, Address, Read, Write, Reload, Spill, Cut, Call, Serve}
 use Rattle.im_block.specs.declared.code.Exit.{Exit}
 use Rattle.im_block.specs.declared.code.Exit.TheVariants.{Jump, Turn, Branch, Return}
 use Rattle.im_block.specs.Paths.{IsEdge}
@@ -97,8 +97,8 @@ uses_below n v (Reload to slot access) w u = absurd cc
 uses_below n v (Spill slot from access) w u = one_below n v from w u
 uses_below n v (Cut cause) w u = absurd cc
 uses_below n v (Call to i first count) w u = let a = (arguments_are v first count u).1 in let b = w.1 in omega arith
-uses_below n v (GetChar to) w u = absurd cc
-uses_below n v (PutChar to from) w u = one_below n v from w.1 u
+uses_below n v (Serve to service None) w u = absurd cc
+uses_below n v (Serve to service (Some from)) w u = one_below n v from w.1 u
 
 uses_above : (p v : ℕ) (line : Line) → LineFrom p line → uses line v ≡ true → p ≤ v
 uses_above p v (Put to z) w u = absurd cc
@@ -119,8 +119,8 @@ uses_above p v (Reload to slot access) w u = absurd cc
 uses_above p v (Spill slot from access) w u = one_above p v from w u
 uses_above p v (Cut cause) w u = absurd cc
 uses_above p v (Call to i first count) w u = let a = (arguments_are v first count u).0 in let b = w.1 in omega arith
-uses_above p v (GetChar to) w u = absurd cc
-uses_above p v (PutChar to from) w u = one_above p v from w.1 u
+uses_above p v (Serve to service None) w u = absurd cc
+uses_above p v (Serve to service (Some from)) w u = one_above p v from w.1 u
 
 -- behind a line lives what is used, and what lives behind it and isn't set
 left_of : (a b c : Bool) → (a || (not b && c)) ≡ true → (a ≡ true) ⊎ (c ≡ true)

@@ -7,7 +7,7 @@ use Rattle.std.proofs.lemmas.List.{get_or_past}
 use Rattle.std.proofs.lemmas.List.Elements.{All-tail}
 use Rattle.std.proofs.lemmas.Option.{slice_get_within, none-some, same_Some}
 use Rattle.im_block.specs.declared.code.Line.{Line}
-use Rattle.im_block.specs.declared.code.Line.TheVariants.{Put, PutNull, Copy, Convert, Unary, Not, Compute, Compare, Move, Distance, Address, Read, Write, Reload, Spill, Cut, Call, GetChar, PutChar}
+use Rattle.im_block.specs.declared.code.Line.TheVariants.{Put, PutNull, Copy, Convert, Unary, Not, Compute, Compare, Move, Distance, Address, Read, Write, Reload, Spill, Cut, Call, Serve}
 use Rattle.im_block.specs.declared.code.Exit.{Exit}
 use Rattle.im_block.specs.declared.code.Exit.TheVariants.{Jump, Turn, Branch, Return}
 use Rattle.im_block.specs.declared.code.Block.{Block}
@@ -66,8 +66,8 @@ target_within n (Reload to slot access) v w e = one_within n to v w e
 target_within n (Spill slot from access) v w e = absurd cc
 target_within n (Cut cause) v w e = absurd cc
 target_within n (Call to i first count) v w e = one_within n to v w.0 e
-target_within n (GetChar to) v w e = one_within n to v w e
-target_within n (PutChar to from) v w e = one_within n to v w.0 e
+target_within n (Serve to service None) v w e = one_within n to v w e
+target_within n (Serve to service (Some from)) v w e = one_within n to v w.0 e
 
 argument_within : (n : ℕ) (line : Line) (v : ℕ) → LineWithin n line → IsArgument line v → v < n
 argument_within n (Call to i first count) v w a = let most = w.1 in let less = a.1 in omega arith

@@ -1,9 +1,9 @@
 -- What a line sets, and what a call does.
 use Rattle.std.proofs.Common.{◌≡◌, ℕ, zero, suc, Bool, true, List, [], ◌∷◌, Some, sym, ap, ◌∙◌, drop, eq-eqb}
-use Rattle.std.specs.Prelude.{◌==◌, ◌&&◌, ◌||◌, ◌+◌, not, nat_le, nat_lt, slice_get}
+use Rattle.std.specs.Prelude.{◌==◌, ◌&&◌, ◌||◌, ◌+◌, not, nat_le, nat_lt, slice_get, None}
 use Rattle.std.proofs.lemmas.Option.{same_Some}
 use Rattle.im_block.specs.declared.code.Line.{Line}
-use Rattle.im_block.specs.declared.code.Line.TheVariants.{Put, PutNull, Copy, Convert, Unary, Not, Compute, Compare, Move, Distance, Address, Read, Write, Reload, Spill, Cut, Call, GetChar, PutChar}
+use Rattle.im_block.specs.declared.code.Line.TheVariants.{Put, PutNull, Copy, Convert, Unary, Not, Compute, Compare, Move, Distance, Address, Read, Write, Reload, Spill, Cut, Call, Serve}
 use Rattle.im_block.specs.declared.code.Exit.{Exit}
 use Rattle.im_alloc_relation.specs.Live.{uses, sets, lives}
 use Rattle.im_alloc_relation.specs.Settled.{IsCall}
@@ -31,19 +31,19 @@ sets_target (Reload to slot access) v e = one_sets v to e
 sets_target (Spill slot from access) v e = absurd cc
 sets_target (Cut cause) v e = absurd cc
 sets_target (Call to i first count) v e = one_sets v to e
-sets_target (GetChar to) v e = one_sets v to e
-sets_target (PutChar to from) v e = one_sets v to e
+sets_target (Serve to service None) v e = one_sets v to e
+sets_target (Serve to service (Some from)) v e = one_sets v to e
 
 pub result_target : (line : Line) (to : ℕ) → result_of line ≡ Some to → target_of line ≡ Some to
 result_target (Call w i first count) to e = e
-result_target (GetChar w) to e = e
-result_target (PutChar w from) to e = e
+result_target (Serve w service None) to e = e
+result_target (Serve w service (Some from)) to e = e
 result_target line to e = absurd cc
 
 pub result_call : (line : Line) (to : ℕ) → result_of line ≡ Some to → IsCall line
 result_call (Call w i first count) to e = tt
-result_call (GetChar w) to e = tt
-result_call (PutChar w from) to e = tt
+result_call (Serve w service None) to e = tt
+result_call (Serve w service (Some from)) to e = tt
 result_call line to e = absurd cc
 
 pub argument_call : (line : Line) (v : ℕ) → IsArgument line v → IsCall line

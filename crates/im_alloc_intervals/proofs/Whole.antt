@@ -5,7 +5,7 @@ use Rattle.std.proofs.lemmas.Bool.{cases_eq, cases_lt}
 use Rattle.std.proofs.lemmas.List.Elements.{All-head, All-tail}
 use Rattle.std.proofs.lemmas.Option.{slice_get_within}
 use Rattle.im_block.specs.declared.code.Line.{Line}
-use Rattle.im_block.specs.declared.code.Line.TheVariants.{Put, PutNull, Copy, Convert, Unary, Not, Compute, Compare, Move, Distance, Address, Read, Write, Reload, Spill, Cut, Call, GetChar, PutChar}
+use Rattle.im_block.specs.declared.code.Line.TheVariants.{Put, PutNull, Copy, Convert, Unary, Not, Compute, Compare, Move, Distance, Address, Read, Write, Reload, Spill, Cut, Call, Serve}
 use Rattle.im_block.specs.declared.code.Exit.{Exit}
 use Rattle.im_block.specs.declared.code.Block.{Block}
 use Rattle.im_block.specs.declared.unit.Function.{Function}
@@ -69,8 +69,8 @@ module _ (statics p : ℕ) (f : Function) (h : ℕ → Home) where
     survives (Call to i first count) to after kept refl b,
     record { few = k; apart = λ v r low high e. kept.argument v r (low, high) (let le = from.1 in omega arith) e },
   )
-  line_valid (GetChar to) after kept from k b = survives (GetChar to) to after kept refl b
-  line_valid (PutChar to source) after kept from k b = survives (PutChar to source) to after kept refl b
+  line_valid (Serve to service None) after kept from k b = survives (Serve to service None) to after kept refl b
+  line_valid (Serve to service (Some source)) after kept from k b = survives (Serve to service (Some source)) to after kept refl b
 
   abbrev Kept : (ℕ → ℕ → Bool) → List Line → Exit → Type 0
   Kept live lines exit = (i : ℕ) (line : Line) → slice_get lines i ≡ Some line → KeptLine h p line (lives live (drop (suc i) lines) exit)

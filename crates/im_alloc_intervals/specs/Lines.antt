@@ -1,7 +1,7 @@
 -- What lines do with registers: what they set, what a call gives, its arguments.
 use Rattle.std.specs.Prelude.{◌≡◌, ◌≢◌, ℕ, ◌+◌, List, Option, Some, None, slice_get, slice_index}
 use Rattle.im_block.specs.declared.code.Line.{Line}
-use Rattle.im_block.specs.declared.code.Line.TheVariants.{Put, PutNull, Copy, Convert, Unary, Not, Compute, Compare, Move, Distance, Address, Read, Write, Reload, Spill, Cut, Call, GetChar, PutChar}
+use Rattle.im_block.specs.declared.code.Line.TheVariants.{Put, PutNull, Copy, Convert, Unary, Not, Compute, Compare, Move, Distance, Address, Read, Write, Reload, Spill, Cut, Call, Serve}
 use Rattle.im_alloc_intervals.specs.Marks.{IsBit, IsBetween}
 
 abbrev pub target_of : Line → Option ℕ
@@ -22,14 +22,12 @@ target_of (Reload to slot access) = Some to
 target_of (Spill slot from access) = None
 target_of (Cut cause) = None
 target_of (Call to i first count) = Some to
-target_of (GetChar to) = Some to
-target_of (PutChar to from) = Some to
+target_of (Serve to service from) = Some to
 
 -- the result of a call, where a line is one
 abbrev pub result_of : Line → Option ℕ
 result_of (Call to i first count) = Some to
-result_of (GetChar to) = Some to
-result_of (PutChar to from) = Some to
+result_of (Serve to service from) = Some to
 result_of line = None
 
 abbrev pub IsArgument : Line → ℕ → Type 0

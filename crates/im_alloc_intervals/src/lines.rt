@@ -26,8 +26,7 @@ fn target_of(line: Line) -> Option<u32>
         | Line::Read { to, .. }
         | Line::Reload { to, .. }
         | Line::Call { to, .. }
-        | Line::GetChar { to }
-        | Line::PutChar { to, .. } => Some(to),
+        | Line::Serve { to, .. } => Some(to),
         Line::Write { .. } | Line::Spill { .. } | Line::Cut(_) => None,
     }
 }
@@ -37,7 +36,7 @@ fn result_of(line: Line) -> Option<u32>
     ensures { result ≡ result_of_line line }
 {
     match line {
-        Line::Call { to, .. } | Line::GetChar { to } | Line::PutChar { to, .. } => Some(to),
+        Line::Call { to, .. } | Line::Serve { to, .. } => Some(to),
         _ => None,
     }
 }

@@ -5,7 +5,7 @@ use Rattle.im_num.specs.declared.values.Cause.TheVariants.{Return as ReturnCut}
 use Rattle.im_block.specs.declared.code.Place.{Place}
 use Rattle.im_block.specs.declared.code.Place.TheVariants.{Static, Local, Through}
 use Rattle.im_block.specs.declared.code.Line.{Line}
-use Rattle.im_block.specs.declared.code.Line.TheVariants.{Put, PutNull, Copy, Convert, Unary, Not, Compute, Compare, Move, Distance, Address, Read, Write, Reload, Spill, Cut, Call, GetChar, PutChar}
+use Rattle.im_block.specs.declared.code.Line.TheVariants.{Put, PutNull, Copy, Convert, Unary, Not, Compute, Compare, Move, Distance, Address, Read, Write, Reload, Spill, Cut, Call, Serve}
 use Rattle.im_block.specs.declared.code.Exit.{Exit}
 use Rattle.im_block.specs.declared.code.Exit.TheVariants.{Jump, Turn, Branch, Return}
 use Rattle.im_block.specs.declared.code.Block.{Block}
@@ -144,10 +144,10 @@ fresh_line h n (Reload to slot access) few below = record { each = λ a k. absur
 fresh_line h n (Spill slot from access) few below = record { each = λ a k. absurd k; once = tt }
 fresh_line h n (Cut cause) few below = fresh_none n (n + 16)
 fresh_line h n (Call to i first count) few below = fresh_call h to i first count n few
-fresh_line h n (GetChar to) few below =
+fresh_line h n (Serve to service None) few below =
     fresh_wide [] (accesses_of_lines (give (h to) (n + 2) [])) (n + 2) (n + 16) n (n + 16) (omega arith) (omega arith) (fresh_give (h to) (n + 2) (n + 16) (omega arith))
-fresh_line h n (PutChar to from) few below =
-    fresh_into (h from) 10 n (PutChar 10 10 ∷ Cut ReturnCut ∷ give (h to) (n + 2) []) [] (n + 2) (n + 16) (omega arith) (omega arith) (below_none n) (fresh_give (h to) (n + 2) (n + 16) (omega arith))
+fresh_line h n (Serve to service (Some from)) few below =
+    fresh_into (h from) 10 n (Serve 10 service (Some 10) ∷ Cut ReturnCut ∷ give (h to) (n + 2) []) [] (n + 2) (n + 16) (omega arith) (omega arith) (below_none n) (fresh_give (h to) (n + 2) (n + 16) (omega arith))
 
 fresh_exit : (h : ℕ → Home) (n : ℕ) (exit : Exit) → Fresh [] (accesses_of_lines (exit_lines h n exit)) n (n + 16)
 fresh_exit h n (Jump b) = fresh_none n (n + 16)

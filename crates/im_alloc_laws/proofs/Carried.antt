@@ -1,10 +1,12 @@
 -- What holds of the lines behind holds of them with a line's pieces before, where pieces keep it.
+use Rattle.std.specs.Prelude.{Some, None}
 use Rattle.std.proofs.Common.{ℕ, zero, suc, ◌+◌, List, ◌∷◌}
 use Rattle.im_num.specs.declared.values.Cause.TheVariants.{Return as ReturnCut}
+use Rattle.im_serve.specs.declared.service.Service.{Service}
 use Rattle.im_block.specs.declared.code.Place.{Place}
 use Rattle.im_block.specs.declared.code.Place.TheVariants.{Static, Local, Through}
 use Rattle.im_block.specs.declared.code.Line.{Line}
-use Rattle.im_block.specs.declared.code.Line.TheVariants.{Put, PutNull, Copy, Convert, Unary, Not, Compute, Compare, Move, Distance, Address, Read, Write, Reload, Spill, Cut, Call, GetChar, PutChar}
+use Rattle.im_block.specs.declared.code.Line.TheVariants.{Put, PutNull, Copy, Convert, Unary, Not, Compute, Compare, Move, Distance, Address, Read, Write, Reload, Spill, Cut, Call, Serve}
 use Rattle.im_block.specs.Paths.{IsCut}
 use Rattle.im_alloc_relation.specs.Homes.{Home, InRegister, InSlot, load, reg, save, into, give, bring, load_place, on_place, put_line}
 
@@ -12,16 +14,16 @@ use Rattle.im_alloc_relation.specs.Homes.{Home, InRegister, InSlot, load, reg, s
 abbrev pub IsPlain : Line → Type 0
 IsPlain (Cut cause) = ⊥
 IsPlain (Call to i first count) = ⊥
-IsPlain (GetChar to) = ⊥
-IsPlain (PutChar to from) = ⊥
+IsPlain (Serve to service None) = ⊥
+IsPlain (Serve to service (Some from)) = ⊥
 IsPlain line = Unit {0}
 
 -- what keeps a property of lines: a plain line, and a call with its cut and the way of its result home
 pub record Carries (Fact : Line → Type 0) (Q : List Line → Type 0) : Type 0 where
   pub plain : (line : Line) (rest : List Line) → IsPlain line → Q rest → Q (line ∷ rest)
   pub call : (to i first count : ℕ) (home : Home) (a : ℕ) (rest : List Line) → Fact (Call to i first count) → Q rest → Q (Call 10 i 10 count ∷ Cut ReturnCut ∷ give home a rest)
-  pub get : (home : Home) (a : ℕ) (rest : List Line) → Q rest → Q (GetChar 10 ∷ Cut ReturnCut ∷ give home a rest)
-  pub put : (home : Home) (a : ℕ) (rest : List Line) → Q rest → Q (PutChar 10 10 ∷ Cut ReturnCut ∷ give home a rest)
+  pub get : {service : Service} (home : Home) (a : ℕ) (rest : List Line) → Q rest → Q (Serve 10 service None ∷ Cut ReturnCut ∷ give home a rest)
+  pub put : {service : Service} (home : Home) (a : ℕ) (rest : List Line) → Q rest → Q (Serve 10 service (Some 10) ∷ Cut ReturnCut ∷ give home a rest)
 
 module _ (Fact : Line → Type 0) (Q : List Line → Type 0) (c : Carries Fact Q) where
   pub carried_load : (home : Home) (s a : ℕ) (rest : List Line) → Q rest → Q (load home s a rest)
@@ -81,6 +83,6 @@ module _ (Fact : Line → Type 0) (Q : List Line → Type 0) (c : Carries Fact Q
   carried h n (Cut cause) rest other fact q = absurd (other tt)
   carried h n (Call to i first count) rest other fact q =
       carried_bring h 10 first count (n + 3) (Call 10 i 10 count ∷ Cut ReturnCut ∷ give (h to) (n + 2) rest) (c.call to i first count (h to) (n + 2) rest fact q)
-  carried h n (GetChar to) rest other fact q = c.get (h to) (n + 2) rest q
-  carried h n (PutChar to from) rest other fact q =
-      carried_into (h from) 10 n (PutChar 10 10 ∷ Cut ReturnCut ∷ give (h to) (n + 2) rest) (c.put (h to) (n + 2) rest q)
+  carried h n (Serve to service None) rest other fact q = c.get (h to) (n + 2) rest q
+  carried h n (Serve to service (Some from)) rest other fact q =
+      carried_into (h from) 10 n (Serve 10 service (Some 10) ∷ Cut ReturnCut ∷ give (h to) (n + 2) rest) (c.put (h to) (n + 2) rest q)

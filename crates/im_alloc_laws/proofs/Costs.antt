@@ -4,7 +4,7 @@ use Rattle.im_num.specs.declared.values.Cause.TheVariants.{Return as ReturnCut}
 use Rattle.im_block.specs.declared.code.Place.{Place}
 use Rattle.im_block.specs.declared.code.Place.TheVariants.{Static, Local, Through}
 use Rattle.im_block.specs.declared.code.Line.{Line}
-use Rattle.im_block.specs.declared.code.Line.TheVariants.{Put, PutNull, Copy, Convert, Unary, Not, Compute, Compare, Move, Distance, Address, Read, Write, Reload, Spill, Cut, Call, GetChar, PutChar}
+use Rattle.im_block.specs.declared.code.Line.TheVariants.{Put, PutNull, Copy, Convert, Unary, Not, Compute, Compare, Move, Distance, Address, Read, Write, Reload, Spill, Cut, Call, Serve}
 use Rattle.im_block.specs.declared.code.Exit.{Exit}
 use Rattle.im_block.specs.declared.code.Exit.TheVariants.{Jump, Turn, Branch, Return}
 use Rattle.im_block.specs.declared.code.Block.{Block}
@@ -95,10 +95,10 @@ line_words h n (Call to i first count) rest =
     let g = give_words (h to) (n + 2) rest in
     let b = bring_words h 10 first count (n + 3) (Call 10 i 10 count ∷ Cut ReturnCut ∷ give (h to) (n + 2) rest) in
     omega arith
-line_words h n (GetChar to) rest = let g = give_words (h to) (n + 2) rest in omega arith
-line_words h n (PutChar to from) rest =
+line_words h n (Serve to service None) rest = let g = give_words (h to) (n + 2) rest in omega arith
+line_words h n (Serve to service (Some from)) rest =
     let g = give_words (h to) (n + 2) rest in
-    let i = into_words (h from) 10 n (PutChar 10 10 ∷ Cut ReturnCut ∷ give (h to) (n + 2) rest) in
+    let i = into_words (h from) 10 n (Serve 10 service (Some 10) ∷ Cut ReturnCut ∷ give (h to) (n + 2) rest) in
     omega arith
 
 lines_words : (h : ℕ → Home) (n : ℕ) (lines tail : List Line) → words (put_lines h n lines tail) ≤ sum_of cost lines + words tail

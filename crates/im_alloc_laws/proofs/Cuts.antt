@@ -5,7 +5,7 @@ use Rattle.im_num.specs.declared.values.Cause.TheVariants.{Return as ReturnCut}
 use Rattle.im_block.specs.declared.code.Place.{Place}
 use Rattle.im_block.specs.declared.code.Place.TheVariants.{Static, Local, Through}
 use Rattle.im_block.specs.declared.code.Line.{Line}
-use Rattle.im_block.specs.declared.code.Line.TheVariants.{Put, PutNull, Copy, Convert, Unary, Not, Compute, Compare, Move, Distance, Address, Read, Write, Reload, Spill, Cut, Call, GetChar, PutChar}
+use Rattle.im_block.specs.declared.code.Line.TheVariants.{Put, PutNull, Copy, Convert, Unary, Not, Compute, Compare, Move, Distance, Address, Read, Write, Reload, Spill, Cut, Call, Serve}
 use Rattle.im_block.specs.declared.code.Exit.{Exit}
 use Rattle.im_block.specs.declared.code.Exit.TheVariants.{Jump, Turn, Branch, Return}
 use Rattle.im_block.specs.declared.unit.Unit.{Unit as Code}
@@ -82,8 +82,8 @@ uncut_line h n (Reload to slot access) rest after valid other = absurd valid
 uncut_line h n (Spill slot from access) rest after valid other = absurd valid
 uncut_line h n (Cut cause) rest after valid other = absurd (other tt)
 uncut_line h n (Call to i first count) rest after valid other = uncut_bring h 10 first count (n + 3) (Call 10 i 10 count ∷ Cut ReturnCut ∷ give (h to) (n + 2) rest) (λ s. s)
-uncut_line h n (GetChar to) rest after valid other = λ s. s
-uncut_line h n (PutChar to from) rest after valid other = uncut_into (h from) 10 n (PutChar 10 10 ∷ Cut ReturnCut ∷ give (h to) (n + 2) rest)
+uncut_line h n (Serve to service None) rest after valid other = λ s. s
+uncut_line h n (Serve to service (Some from)) rest after valid other = uncut_into (h from) 10 n (Serve 10 service (Some 10) ∷ Cut ReturnCut ∷ give (h to) (n + 2) rest)
 
 uncut_lines : (h : ℕ → Home) (live : ℕ → ℕ → Bool) (n : ℕ) (lines tail : List Line) (exit : Exit) → Valid h live lines exit → Uncut lines → Uncut tail → Uncut (put_lines h n lines tail)
 uncut_lines h live n [] tail exit valid other last = last

@@ -6,7 +6,7 @@ use Rattle.im_num.specs.declared.values.Cause.TheVariants.{Return as ReturnCut}
 use Rattle.im_block.specs.declared.code.Place.{Place}
 use Rattle.im_block.specs.declared.code.Place.TheVariants.{Static, Local, Through}
 use Rattle.im_block.specs.declared.code.Line.{Line}
-use Rattle.im_block.specs.declared.code.Line.TheVariants.{Put, PutNull, Copy, Convert, Unary, Not, Compute, Compare, Move, Distance, Address, Read, Write, Reload, Spill, Cut, Call, GetChar, PutChar}
+use Rattle.im_block.specs.declared.code.Line.TheVariants.{Put, PutNull, Copy, Convert, Unary, Not, Compute, Compare, Move, Distance, Address, Read, Write, Reload, Spill, Cut, Call, Serve}
 use Rattle.im_block.specs.declared.code.Exit.{Exit}
 use Rattle.im_block.specs.declared.code.Exit.TheVariants.{Jump, Turn, Branch, Return}
 use Rattle.im_block.specs.declared.code.Block.{Block}
@@ -153,12 +153,12 @@ module _ (statics : ℕ) (f g : Function) (h : ℕ → Home) (homes : Homes h g.
       let back : List Line = Cut ReturnCut ∷ give (h to) (n + 2) rest in
       good_bring 10 first count (n + 3) (Call 10 i 10 count ∷ back) (omega arith) (omega arith)
       (cons (Call 10 i 10 count) back (refl, refl, p) (cons (Cut ReturnCut) (give (h to) (n + 2) rest) tt (give_at (h to) to (n + 2) rest refl q)))
-  good_line n (GetChar to) rest p q =
+  good_line n (Serve to service None) rest p q =
       let back : List Line = Cut ReturnCut ∷ give (h to) (n + 2) rest in
-      cons (GetChar 10) back refl (cons (Cut ReturnCut) (give (h to) (n + 2) rest) tt (give_at (h to) to (n + 2) rest refl q))
-  good_line n (PutChar to from) rest p q =
+      cons (Serve 10 service None) back (refl, p) (cons (Cut ReturnCut) (give (h to) (n + 2) rest) tt (give_at (h to) to (n + 2) rest refl q))
+  good_line n (Serve to service (Some from)) rest p q =
       let back : List Line = Cut ReturnCut ∷ give (h to) (n + 2) rest in
-      good_into from 10 n (PutChar 10 10 ∷ back) home10 (cons (PutChar 10 10) back (refl, refl) (cons (Cut ReturnCut) (give (h to) (n + 2) rest) tt (give_at (h to) to (n + 2) rest refl q)))
+      good_into from 10 n (Serve 10 service (Some 10) ∷ back) home10 (cons (Serve 10 service (Some 10)) back (refl, refl, p) (cons (Cut ReturnCut) (give (h to) (n + 2) rest) tt (give_at (h to) to (n + 2) rest refl q)))
 
   good_lines : (n : ℕ) (lines tail : List Line) → All (IsPlaceableLine statics f) lines → AllGood tail → AllGood (put_lines h n lines tail)
   good_lines n [] tail p q = q

@@ -2,7 +2,7 @@
 use Rattle.std.proofs.Common.{◌≡◌, ℕ, ◌+◌, ◌*◌, List, [], ◌∷◌, ◌++◌, Some, None, refl, sym, ap, subst, length}
 use Rattle.std.specs.Prelude.{map, slice_get}
 use Rattle.im_block.specs.declared.code.Line.{Line}
-use Rattle.im_block.specs.declared.code.Line.TheVariants.{Cut, Call, GetChar, PutChar}
+use Rattle.im_block.specs.declared.code.Line.TheVariants.{Cut, Call, Serve}
 use Rattle.im_block.specs.declared.code.Exit.{Exit}
 use Rattle.im_block.specs.declared.code.Exit.TheVariants.{Jump, Turn, Branch, Return}
 use Rattle.im_block.specs.declared.code.Block.{Block}
@@ -89,8 +89,8 @@ calls_give (InSlot m) a rest c = c
 calls_plain : (line : Line) (rest : List Line) → IsPlain line → CutAfterCalls rest → CutAfterCalls (line ∷ rest)
 calls_plain (Cut cause) rest plain c = absurd plain
 calls_plain (Call to i first count) rest plain c = absurd plain
-calls_plain (GetChar to) rest plain c = absurd plain
-calls_plain (PutChar to from) rest plain c = absurd plain
+calls_plain (Serve to service None) rest plain c = absurd plain
+calls_plain (Serve to service (Some from)) rest plain c = absurd plain
 calls_plain line rest plain c = c
 
 abbrev Any : Line → Type 0

@@ -1,10 +1,10 @@
 -- The lines that are put one by one: what holds of a block's lines holds of them.
 use Rattle.std.proofs.Common.{◌≡◌, ℕ, ◌≤◌, Bool, true, List, [], ◌∷◌, ◌++◌, refl, sym, ap, ◌∙◌, arith}
-use Rattle.std.specs.Prelude.{All, ◌&&◌, ◌||◌, not}
+use Rattle.std.specs.Prelude.{All, ◌&&◌, ◌||◌, not, Some, None}
 use Rattle.std.proofs.lemmas.List.Elements.{All-nil, All-cons, All-head, All-tail}
 use Rattle.im_num.specs.declared.values.Cause.{Cause}
 use Rattle.im_block.specs.declared.code.Line.{Line}
-use Rattle.im_block.specs.declared.code.Line.TheVariants.{Put, PutNull, Copy, Convert, Unary, Not, Compute, Compare, Move, Distance, Address, Read, Write, Reload, Spill, Cut, Call, GetChar, PutChar}
+use Rattle.im_block.specs.declared.code.Line.TheVariants.{Put, PutNull, Copy, Convert, Unary, Not, Compute, Compare, Move, Distance, Address, Read, Write, Reload, Spill, Cut, Call, Serve}
 use Rattle.im_block.specs.declared.code.Exit.{Exit}
 use Rattle.im_block.specs.declared.code.Exit.TheVariants.{Jump, Turn, Branch, Return}
 use Rattle.im_block.specs.Shape.{sum_of, cost}
@@ -31,8 +31,8 @@ past_by exit Q all less (line ∷ rest) = all (line ∷ rest)
 
 behind_by : (exit : Exit) (Q : List Line → List Line → Type 0) → ((rest : List Line) → Q rest rest) → ((cause : Cause) (rest : List Line) → Q (Cut cause ∷ rest) rest) → (line : Line) (rest : List Line) → Q rest (behind exit line rest)
 behind_by exit Q all less (Call to i first count) rest = past_by exit Q all less rest
-behind_by exit Q all less (GetChar to) rest = past_by exit Q all less rest
-behind_by exit Q all less (PutChar to from) rest = past_by exit Q all less rest
+behind_by exit Q all less (Serve to service None) rest = past_by exit Q all less rest
+behind_by exit Q all less (Serve to service (Some from)) rest = past_by exit Q all less rest
 behind_by exit Q all less line rest = all rest
 
 pub needed_all : (exit : Exit) (P : Line → Type 0) (lines : List Line) → All P lines → All P (needed exit lines)
@@ -76,8 +76,8 @@ turn_ends b line (next ∷ rest) e = e
 
 turn_behind : (b : ℕ) (line : Line) (rest : List Line) → EndsWithCut rest → EndsWithCut (line ∷ behind (Turn b) line rest)
 turn_behind b (Call to i first count) rest e = turn_ends b (Call to i first count) rest e
-turn_behind b (GetChar to) rest e = turn_ends b (GetChar to) rest e
-turn_behind b (PutChar to from) rest e = turn_ends b (PutChar to from) rest e
+turn_behind b (Serve to service None) rest e = turn_ends b (Serve to service None) rest e
+turn_behind b (Serve to service (Some from)) rest e = turn_ends b (Serve to service (Some from)) rest e
 turn_behind b line rest e = ends_more line rest e
 
 -- the cut of a loop edge stays
@@ -121,8 +121,8 @@ valid_less h (Reload to slot access) after less le k = k
 valid_less h (Spill slot from access) after less le k = k
 valid_less h (Cut cause) after less le k = tt
 valid_less h (Call to i first count) after less le k = ((λ v t. k.0 v (le v t)), k.1)
-valid_less h (GetChar to) after less le k = λ v t. k v (le v t)
-valid_less h (PutChar to from) after less le k = λ v t. k v (le v t)
+valid_less h (Serve to service None) after less le k = λ v t. k v (le v t)
+valid_less h (Serve to service (Some from)) after less le k = λ v t. k v (le v t)
 
 pub needed_valid : (h : ℕ → Home) (live : ℕ → ℕ → Bool) (exit : Exit) (lines : List Line) → Valid h live lines exit → Valid h live (needed exit lines) exit
 needed_valid h live exit [] v = tt

@@ -1,11 +1,11 @@
 -- A line's pieces stand before what follows; blocks and functions of placed code, and what they are made of.
 use Rattle.std.proofs.Common.{◌≡◌, ℕ, zero, suc, ◌+◌, ◌*◌, List, [], ◌∷◌, ◌++◌, Some, refl, ap, subst, length}
-use Rattle.std.specs.Prelude.{slice_get}
+use Rattle.std.specs.Prelude.{slice_get, None}
 use Rattle.im_num.specs.declared.values.Cause.TheVariants.{Return as ReturnCut}
 use Rattle.im_block.specs.declared.code.Place.{Place}
 use Rattle.im_block.specs.declared.code.Place.TheVariants.{Static, Local, Through}
 use Rattle.im_block.specs.declared.code.Line.{Line}
-use Rattle.im_block.specs.declared.code.Line.TheVariants.{Put, PutNull, Copy, Convert, Unary, Not, Compute, Compare, Move, Distance, Address, Read, Write, Reload, Spill, Cut, Call, GetChar, PutChar}
+use Rattle.im_block.specs.declared.code.Line.TheVariants.{Put, PutNull, Copy, Convert, Unary, Not, Compute, Compare, Move, Distance, Address, Read, Write, Reload, Spill, Cut, Call, Serve}
 use Rattle.im_block.specs.declared.code.Block.{Block}
 use Rattle.im_block.specs.declared.unit.Function.{Function}
 use Rattle.im_alloc_relation.specs.Homes.{Home, InRegister, InSlot, numbers_kept, load, reg, save, into, give, bring, load_place, on_place, put_line, needed}
@@ -74,10 +74,10 @@ put_app h n (Cut cause) rest = refl
 put_app h n (Call to i first count) rest =
     bring_app h 10 first count (n + 3) (Call 10 i 10 count ∷ Cut ReturnCut ∷ give (h to) (n + 2) rest) (Call 10 i 10 count ∷ Cut ReturnCut ∷ give (h to) (n + 2) []) rest
     (ap (λ q. Call 10 i 10 count ∷ Cut ReturnCut ∷ q) (give_app (h to) (n + 2) rest))
-put_app h n (GetChar to) rest = ap (λ q. GetChar 10 ∷ Cut ReturnCut ∷ q) (give_app (h to) (n + 2) rest)
-put_app h n (PutChar to from) rest =
-    into_app (h from) 10 n (PutChar 10 10 ∷ Cut ReturnCut ∷ give (h to) (n + 2) rest) (PutChar 10 10 ∷ Cut ReturnCut ∷ give (h to) (n + 2) []) rest
-    (ap (λ q. PutChar 10 10 ∷ Cut ReturnCut ∷ q) (give_app (h to) (n + 2) rest))
+put_app h n (Serve to service None) rest = ap (λ q. Serve 10 service None ∷ Cut ReturnCut ∷ q) (give_app (h to) (n + 2) rest)
+put_app h n (Serve to service (Some from)) rest =
+    into_app (h from) 10 n (Serve 10 service (Some 10) ∷ Cut ReturnCut ∷ give (h to) (n + 2) rest) (Serve 10 service (Some 10) ∷ Cut ReturnCut ∷ give (h to) (n + 2) []) rest
+    (ap (λ q. Serve 10 service (Some 10) ∷ Cut ReturnCut ∷ q) (give_app (h to) (n + 2) rest))
 
 -- a block of placed code, and the one that it is made of
 pub record Made (h : ℕ → Home) (xs : List Block) (b : ℕ) (y : Block) : Type 0 where

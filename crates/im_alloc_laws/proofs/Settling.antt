@@ -4,10 +4,11 @@ use Rattle.std.specs.Prelude.{◌==◌, ◌&&◌, ◌||◌, not, nat_lt, nat_le}
 use Rattle.std.proofs.lemmas.Bool.Decides.{nat_tests}
 use Rattle.std.proofs.lemmas.Bool.{cases_lt}
 use Rattle.im_num.specs.declared.values.Cause.TheVariants.{Return as ReturnCut}
+use Rattle.im_serve.specs.declared.service.Service.{Service}
 use Rattle.im_block.specs.declared.code.Place.{Place}
 use Rattle.im_block.specs.declared.code.Place.TheVariants.{Static, Local, Through}
 use Rattle.im_block.specs.declared.code.Line.{Line}
-use Rattle.im_block.specs.declared.code.Line.TheVariants.{Put, PutNull, Copy, Convert, Unary, Not, Compute, Compare, Move, Distance, Address, Read, Write, Reload, Spill, Cut, Call, GetChar, PutChar}
+use Rattle.im_block.specs.declared.code.Line.TheVariants.{Put, PutNull, Copy, Convert, Unary, Not, Compute, Compare, Move, Distance, Address, Read, Write, Reload, Spill, Cut, Call, Serve}
 use Rattle.im_block.specs.declared.code.Exit.{Exit}
 use Rattle.im_block.specs.declared.code.Exit.TheVariants.{Jump, Turn, Branch, Return}
 use Rattle.im_alloc_relation.specs.Homes.{Home, InRegister, InSlot, numbers_kept, load, reg, save, into, give, bring, load_place, put_line, put_lines, exit_lines, put_exit}
@@ -224,13 +225,13 @@ module _ (wanted : ℕ → ℕ → Bool) (h : ℕ → Home) (exit : Exit) where
         ])
       ]
 
-  get_lives : (to n : ℕ) (rest : List Line) (after : ℕ → Bool) (r : ℕ) → Survives h to after → (W rest r → Held h after r) → W (put_line h n (GetChar to) rest) r → ⊥
+  get_lives : {service : Service} (to n : ℕ) (rest : List Line) (after : ℕ → Bool) (r : ℕ) → Survives h to after → (W rest r → Held h after r) → W (put_line h n (Serve to service None) rest) r → ⊥
   get_lives to n rest after r survives k w =
       let c = both (not (r == 10)) (L (give (h to) (n + 2) rest) r) w in
       not_true (r == 10) c.0 (same_is r 10 (behind_call to (n + 2) rest after r survives k c.1))
 
-  put_lives : (to from n : ℕ) (rest : List Line) (after : ℕ → Bool) (r : ℕ) → Survives h to after → (W rest r → Held h after r) → W (put_line h n (PutChar to from) rest) r → Before (λ v. v == from) to after r
-  put_lives to from n rest after r survives k w = elim (brought (h from) 10 n (PutChar 10 10 ∷ Cut ReturnCut ∷ give (h to) (n + 2) rest) r w) [
+  put_lives : {service : Service} (to from n : ℕ) (rest : List Line) (after : ℕ → Bool) (r : ℕ) → Survives h to after → (W rest r → Held h after r) → W (put_line h n (Serve to service (Some from)) rest) r → Before (λ v. v == from) to after r
+  put_lives to from n rest after r survives k w = elim (brought (h from) 10 n (Serve 10 service (Some 10) ∷ Cut ReturnCut ∷ give (h to) (n + 2) rest) r w) [
     | inl e ↦ used_one (λ v. v == from) to after r from (same_is from from refl) e
     | inr d ↦ absurd (elim (left_of (r == 10) (r == 10) (L (give (h to) (n + 2) rest) r) d.1) [
       | inl e ↦ d.0 (same_of r 10 e)
@@ -264,8 +265,8 @@ module _ (wanted : ℕ → ℕ → Bool) (h : ℕ → Home) (exit : Exit) where
   line_lives n (Spill slot from access) rest after r valid k w = absurd valid
   line_lives n (Cut cause) rest after r valid k w = k w
   line_lives n (Call to i first count) rest after r valid k w = call_lives to i first count n rest after r valid.0 k w
-  line_lives n (GetChar to) rest after r valid k w = absurd (get_lives to n rest after r valid k w)
-  line_lives n (PutChar to from) rest after r valid k w = put_lives to from n rest after r valid k w
+  line_lives n (Serve to service None) rest after r valid k w = absurd (get_lives to n rest after r valid k w)
+  line_lives n (Serve to service (Some from)) rest after r valid k w = put_lives to from n rest after r valid k w
 
   pub lines_live : (live : ℕ → ℕ → Bool) (old : Exit) (n : ℕ) (lines tail : List Line) → ((r : ℕ) → W tail r → Held h (exit_lives live old) r) → Valid h live lines old → (r : ℕ) → W (put_lines h n lines tail) r → Held h (lives live lines old) r
   lines_live live old n [] tail k valid r w = k r w
@@ -325,8 +326,8 @@ module _ (wanted : ℕ → ℕ → Bool) (h : ℕ → Home) (exit : Exit) where
   line_settles n (Call to i first count) rest after valid k q =
       bring_settles 10 first count (n + 3) _
       ((λ c r w. behind_call to (n + 2) rest after r valid.0 (k r) w), ((λ c. absurd c), give_settles (h to) (n + 2) rest q))
-  line_settles n (GetChar to) rest after valid k q = ((λ c r w. behind_call to (n + 2) rest after r valid (k r) w), ((λ c. absurd c), give_settles (h to) (n + 2) rest q))
-  line_settles n (PutChar to from) rest after valid k q =
+  line_settles n (Serve to service None) rest after valid k q = ((λ c r w. behind_call to (n + 2) rest after r valid (k r) w), ((λ c. absurd c), give_settles (h to) (n + 2) rest q))
+  line_settles n (Serve to service (Some from)) rest after valid k q =
       into_settles (h from) 10 n _ ((λ c r w. behind_call to (n + 2) rest after r valid (k r) w), ((λ c. absurd c), give_settles (h to) (n + 2) rest q))
 
   pub lines_settle : (live : ℕ → ℕ → Bool) (old : Exit) (n : ℕ) (lines tail : List Line) → ((r : ℕ) → W tail r → Held h (exit_lives live old) r) → S tail → Valid h live lines old → S (put_lines h n lines tail)

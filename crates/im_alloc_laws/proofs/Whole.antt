@@ -6,7 +6,7 @@ use Rattle.im_num.specs.declared.values.Cause.TheVariants.{Return as ReturnCut}
 use Rattle.im_block.specs.declared.code.Place.{Place}
 use Rattle.im_block.specs.declared.code.Place.TheVariants.{Static, Local, Through}
 use Rattle.im_block.specs.declared.code.Line.{Line}
-use Rattle.im_block.specs.declared.code.Line.TheVariants.{Put, PutNull, Copy, Convert, Unary, Not, Compute, Compare, Move, Distance, Address, Read, Write, Reload, Spill, Cut, Call, GetChar, PutChar}
+use Rattle.im_block.specs.declared.code.Line.TheVariants.{Put, PutNull, Copy, Convert, Unary, Not, Compute, Compare, Move, Distance, Address, Read, Write, Reload, Spill, Cut, Call, Serve}
 use Rattle.im_block.specs.declared.code.Exit.{Exit}
 use Rattle.im_block.specs.declared.code.Exit.TheVariants.{Jump, Turn, Branch, Return}
 use Rattle.im_block.specs.declared.code.Block.{Block}
@@ -88,8 +88,8 @@ within statics g (Reload to slot access) h = h.0.1
 within statics g (Spill slot from access) h = h.0.1
 within statics g (Cut cause) h = tt
 within statics g (Call to i first count) h = let a = h.0 in let b = h.1 in let c = h.2 in (omega arith, omega arith)
-within statics g (GetChar to) h = omega arith
-within statics g (PutChar to from) h = let a = h.0 in let b = h.1 in (omega arith, omega arith)
+within statics g (Serve to service None) h = let a = h.0 in omega arith
+within statics g (Serve to service (Some from)) h = let a = h.0 in let b = h.1 in (omega arith, omega arith)
 
 exit_within : (exit : Exit) → IsPlacedExit exit → ExitWithin 32 exit
 exit_within (Jump b) h = tt
@@ -139,8 +139,8 @@ module _ (fs gs : List Function) (all : PlacedFunctions fs gs) where
   there_carried = record {
     plain = λ line rest plain q. All-cons There line rest (plain_there line plain) q;
     call = λ to i first count home a rest fact q. All-cons There (Call 10 i 10 count) (Cut ReturnCut ∷ give home a rest) fact (give_there home a rest q);
-    get = λ home a rest q. All-cons There (GetChar 10) (Cut ReturnCut ∷ give home a rest) tt (give_there home a rest q);
-    put = λ home a rest q. All-cons There (PutChar 10 10) (Cut ReturnCut ∷ give home a rest) tt (give_there home a rest q);
+    get = λ home a rest q. All-cons There (Serve 10 service None) (Cut ReturnCut ∷ give home a rest) tt (give_there home a rest q);
+    put = λ home a rest q. All-cons There (Serve 10 service (Some 10)) (Cut ReturnCut ∷ give home a rest) tt (give_there home a rest q);
   }
 
   there_line : (h : ℕ → Home) (n : ℕ) (line : Line) (rest : List Line) → There line → All There rest → All There (put_line h n line rest)

@@ -1,11 +1,12 @@
 -- What a line that can be placed costs at most.
+use Rattle.std.specs.Prelude.{Some, None}
 use Rattle.std.proofs.Common.{ℕ, ◌≤◌, arith}
 use Rattle.im_num.specs.declared.kind.Kind.{Kind}
 use Rattle.im_num.specs.declared.kind.Kind.TheVariants.{I8, U8, I16, U16, I32, U32, Ptr}
 use Rattle.im_block.specs.declared.code.Place.{Place}
 use Rattle.im_block.specs.declared.code.Place.TheVariants.{Static, Local, Through}
 use Rattle.im_block.specs.declared.code.Line.{Line}
-use Rattle.im_block.specs.declared.code.Line.TheVariants.{Put, PutNull, Copy, Convert, Unary, Not, Compute, Compare, Move, Distance, Address, Read, Write, Reload, Spill, Cut, Call, GetChar, PutChar}
+use Rattle.im_block.specs.declared.code.Line.TheVariants.{Put, PutNull, Copy, Convert, Unary, Not, Compute, Compare, Move, Distance, Address, Read, Write, Reload, Spill, Cut, Call, Serve}
 use Rattle.im_block.specs.declared.unit.Function.{Function}
 use Rattle.im_block.specs.Shape.{narrowing, place_registers, cost}
 use Rattle.im_alloc_placed.specs.Placeable.{IsPlaceableLine}
@@ -42,5 +43,5 @@ costs statics f (Reload to slot access) h = absurd h
 costs statics f (Spill slot from access) h = absurd h
 costs statics f (Cut cause) h = omega arith
 costs statics f (Call to i first count) h = omega arith
-costs statics f (GetChar to) h = omega arith
-costs statics f (PutChar to from) h = omega arith
+costs statics f (Serve to service None) h = omega arith
+costs statics f (Serve to service (Some from)) h = omega arith

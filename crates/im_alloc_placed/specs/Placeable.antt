@@ -1,8 +1,9 @@
 -- Block code to which placing can give registers and slots.
 use Rattle.std.specs.Prelude.{◌≡◌, ◌≢◌, ◌<◌, ◌≤◌, ◌⊎◌, ◌/◌, ◌^◌, ℕ, ◌+◌, ◌*◌, List, [], ◌∷◌, Some, None, length, slice_get, All}
 use Rattle.im_num.specs.declared.kind.Kind.TheVariants.{Ptr}
+use Rattle.im_serve.specs.Services.{row, IsNullary, IsUnary}
 use Rattle.im_block.specs.declared.code.Line.{Line}
-use Rattle.im_block.specs.declared.code.Line.TheVariants.{Put, PutNull, Copy, Convert, Unary, Not, Compute, Compare, Move, Distance, Address, Read, Write, Reload, Spill, Cut, Call, GetChar, PutChar}
+use Rattle.im_block.specs.declared.code.Line.TheVariants.{Put, PutNull, Copy, Convert, Unary, Not, Compute, Compare, Move, Distance, Address, Read, Write, Reload, Spill, Cut, Call, Serve}
 use Rattle.im_block.specs.declared.code.Exit.{Exit}
 use Rattle.im_block.specs.declared.code.Exit.TheVariants.{Jump, Turn, Branch, Return}
 use Rattle.im_block.specs.declared.code.Block.{Block}
@@ -33,8 +34,8 @@ IsPlaceableLine statics f (Reload to slot access) = ⊥
 IsPlaceableLine statics f (Spill slot from access) = ⊥
 IsPlaceableLine statics f (Cut cause) = Unit {0}
 IsPlaceableLine statics f (Call to i first count) = count ≤ 8
-IsPlaceableLine statics f (GetChar to) = Unit {0}
-IsPlaceableLine statics f (PutChar to from) = Unit {0}
+IsPlaceableLine statics f (Serve to service None) = IsNullary (row service).parameter
+IsPlaceableLine statics f (Serve to service (Some from)) = IsUnary (row service).parameter
 
 -- the registers that a line uses and sets are those from a number on
 abbrev pub LineFrom : ℕ → Line → Type 0
@@ -55,8 +56,8 @@ LineFrom n (Reload to slot access) = n ≤ to
 LineFrom n (Spill slot from access) = n ≤ from
 LineFrom n (Cut cause) = Unit {0}
 LineFrom n (Call to i first count) = (n ≤ to) × (n ≤ first)
-LineFrom n (GetChar to) = n ≤ to
-LineFrom n (PutChar to from) = (n ≤ to) × (n ≤ from)
+LineFrom n (Serve to service None) = n ≤ to
+LineFrom n (Serve to service (Some from)) = (n ≤ to) × (n ≤ from)
 
 abbrev pub ExitFrom : ℕ → Exit → Type 0
 ExitFrom n (Jump b) = Unit {0}

@@ -1,8 +1,9 @@
 -- Placed code: block code over the machine's registers, in the forms that selection has.
 use Rattle.std.specs.Prelude.{◌≡◌, ◌≢◌, ◌<◌, ◌≤◌, ◌⊎◌, ◌/◌, ◌^◌, ℕ, ◌+◌, ◌*◌, Option, Some, None, length, All}
 use Rattle.im_num.specs.declared.kind.Kind.TheVariants.{Ptr}
+use Rattle.im_serve.specs.Services.{row, IsNullary, IsUnary}
 use Rattle.im_block.specs.declared.code.Line.{Line}
-use Rattle.im_block.specs.declared.code.Line.TheVariants.{Put, PutNull, Copy, Convert, Unary, Not, Compute, Compare, Move, Distance, Address, Read, Write, Reload, Spill, Cut, Call, GetChar, PutChar}
+use Rattle.im_block.specs.declared.code.Line.TheVariants.{Put, PutNull, Copy, Convert, Unary, Not, Compute, Compare, Move, Distance, Address, Read, Write, Reload, Spill, Cut, Call, Serve}
 use Rattle.im_block.specs.declared.code.Exit.{Exit}
 use Rattle.im_block.specs.declared.code.Exit.TheVariants.{Jump, Turn, Branch, Return}
 use Rattle.im_block.specs.declared.code.Block.{Block}
@@ -32,8 +33,8 @@ IsPlacedLine statics f (Reload to slot access) = IsHome to × (slot < f.slots)
 IsPlacedLine statics f (Spill slot from access) = IsHome from × (slot < f.slots)
 IsPlacedLine statics f (Cut cause) = Unit {0}
 IsPlacedLine statics f (Call to i first count) = (to ≡ 10) × (first ≡ 10) × (count ≤ 8)
-IsPlacedLine statics f (GetChar to) = to ≡ 10
-IsPlacedLine statics f (PutChar to from) = (to ≡ 10) × (from ≡ 10)
+IsPlacedLine statics f (Serve to service None) = (to ≡ 10) × IsNullary (row service).parameter
+IsPlacedLine statics f (Serve to service (Some from)) = (to ≡ 10) × (from ≡ 10) × IsUnary (row service).parameter
 
 abbrev pub IsResult : Option ℕ → Type 0
 IsResult None = Unit {0}

@@ -9,14 +9,16 @@ use Rattle.im_ctype.specs.declared.cell.Cell.{Cell}
 use Rattle.im_store.specs.Objects.{Name, Named, Slot, Link, Object, static, Value, Number, Unset, Shape, Store}
 use Rattle.im_store.specs.Statics.{StaticObject}
 use Rattle.im_store.specs.Outcomes.{Undef, More, End, cell_shown, cells_shown, variables_from, variables}
+use Rattle.im_serve.specs.declared.service.Service.{Service}
+use Rattle.im_serve.specs.Services.{serve}
 use Rattle.im_block.specs.declared.code.Line.{Line}
-use Rattle.im_block.specs.declared.code.Line.TheVariants.{Cut, Call, GetChar, PutChar}
+use Rattle.im_block.specs.declared.code.Line.TheVariants.{Cut, Call, Serve}
 use Rattle.im_block.specs.declared.code.Exit.{Exit}
 use Rattle.im_block.specs.declared.code.Block.{Block}
 use Rattle.im_block.specs.declared.unit.Function.{Function}
 use Rattle.im_block.specs.declared.unit.Unit.{Unit as Code}
 use Rattle.im_block.specs.Wellformed.{Takes}
-use Rattle.im_block.specs.Meaning.{Setting, Active, Spot, Event, Tests, Saves, Serves, Cuts, Frame, State, Next, Goes, Stops, on_checked, takes, found, slot_shape, shapes_of, number_of, statics_of, ended, begun_by, passed, kept, kept_by, with_register, at_block, activates, next_active, enters, waiting, served, gets, puts, does, step}
+use Rattle.im_block.specs.Meaning.{Setting, Active, Spot, Event, Tests, Saves, Serves, Cuts, Frame, State, Next, Goes, Stops, on_checked, takes, found, slot_shape, shapes_of, number_of, statics_of, ended, begun_by, passed, kept, kept_by, with_register, at_block, activates, next_active, enters, waiting, served, serves, does, step}
 use Rattle.im_block.specs.Runs.{goes_on, exec, uncut}
 use Rattle.im_alloc_relation.specs.Homes.{Home, InRegister, InSlot, numbers_kept, into, give, bring, put_line, past_cut, needed, put_lines, exit_lines, put_exit}
 use Rattle.im_alloc_relation.specs.Live.{lives}
@@ -393,42 +395,35 @@ served_after u v g s k n e to b rest input output fuel t y z xs st okay valid th
       };
     }
 
--- getchar
-pub get_after : (u v : Code) (g : Setting) (s : State) (k : Known u v s) (n e to : ℕ) (rest : List Line) (y : ℕ → Value) (z : ℕ) (xs : List Frame) (st : Store) → Survives k.pf.home to (lives k.pf.live rest s.frame.spot.exit) → Valid k.pf.home k.pf.live rest s.frame.spot.exit → AllThere u rest → Held u v s k.pf.home (lives k.pf.live (GetChar to ∷ rest) s.frame.spot.exit) y xs st → After u v g (twin s (put_line k.pf.home n (GetChar to) (put_lines k.pf.home (n + numbers_kept) (past_cut s.frame.spot.exit (needed s.frame.spot.exit rest)) (exit_lines k.pf.home e s.frame.spot.exit))) (put_exit k.pf.home s.frame.spot.exit) y z xs st) (does u g (GetChar to) rest s)
-get_after u v g s k n e to rest y z xs st okay valid there m =
-    takes_after u v g t s.fuel s.output _ _ refl (λ fuel is. by fuel s.input is)
+-- a service without a parameter
+pub get_after : (u v : Code) (g : Setting) (s : State) (k : Known u v s) (n e to : ℕ) (service : Service) (rest : List Line) (y : ℕ → Value) (z : ℕ) (xs : List Frame) (st : Store) → Survives k.pf.home to (lives k.pf.live rest s.frame.spot.exit) → Valid k.pf.home k.pf.live rest s.frame.spot.exit → AllThere u rest → Held u v s k.pf.home (lives k.pf.live (Serve to service None ∷ rest) s.frame.spot.exit) y xs st → After u v g (twin s (put_line k.pf.home n (Serve to service None) (put_lines k.pf.home (n + numbers_kept) (past_cut s.frame.spot.exit (needed s.frame.spot.exit rest)) (exit_lines k.pf.home e s.frame.spot.exit))) (put_exit k.pf.home s.frame.spot.exit) y z xs st) (does u g (Serve to service None) rest s)
+get_after u v g s k n e to service rest y z xs st okay valid there m =
+    takes_after u v g t s.fuel s.output _ _ refl (λ fuel is.
+    let reply = serve service g.capacity (pos 0) s.input s.output in
+    served_after u v g s k n e to (Number reply.value) rest reply.input reply.output fuel t y z xs st okay valid there is less)
   where
     t : State
-    t = twin s (put_line k.pf.home n (GetChar to) (put_lines k.pf.home (n + numbers_kept) (past_cut s.frame.spot.exit (needed s.frame.spot.exit rest)) (exit_lines k.pf.home e s.frame.spot.exit))) (put_exit k.pf.home s.frame.spot.exit) y z xs st
+    t = twin s (put_line k.pf.home n (Serve to service None) (put_lines k.pf.home (n + numbers_kept) (past_cut s.frame.spot.exit (needed s.frame.spot.exit rest)) (exit_lines k.pf.home e s.frame.spot.exit))) (put_exit k.pf.home s.frame.spot.exit) y z xs st
 
     less : Held u v s k.pf.home (without to (lives k.pf.live rest s.frame.spot.exit)) y xs st
     less = held_less u v s k.pf.home _ _ y xs st (λ q t. t) m
 
-    by : (fuel : ℕ) (input : List ℕ) → step v g t ≡ gets v g 10 (Cut ReturnCut ∷ give (k.pf.home to) (n + 2) (put_lines k.pf.home (n + numbers_kept) (past_cut s.frame.spot.exit (needed s.frame.spot.exit rest)) (exit_lines k.pf.home e s.frame.spot.exit))) input fuel t → After u v g t (gets u g to rest input fuel s)
-    by fuel [] is = served_after u v g s k n e to (Number (negsuc 0)) rest [] s.output fuel t y z xs st okay valid there is less
-    by fuel (byte ∷ input) is = served_after u v g s k n e to (Number (pos byte)) rest input s.output fuel t y z xs st okay valid there is less
-
--- putchar
-pub put_after : (u v : Code) (g : Setting) (s : State) (k : Known u v s) (n e to from : ℕ) (rest : List Line) (y : ℕ → Value) (z : ℕ) (xs : List Frame) (st : Store) → Survives k.pf.home to (lives k.pf.live rest s.frame.spot.exit) → Valid k.pf.home k.pf.live rest s.frame.spot.exit → AllThere u rest → Held u v s k.pf.home (lives k.pf.live (PutChar to from ∷ rest) s.frame.spot.exit) y xs st → After u v g (twin s (put_line k.pf.home n (PutChar to from) (put_lines k.pf.home (n + numbers_kept) (past_cut s.frame.spot.exit (needed s.frame.spot.exit rest)) (exit_lines k.pf.home e s.frame.spot.exit))) (put_exit k.pf.home s.frame.spot.exit) y z xs st) (does u g (PutChar to from) rest s)
-put_after u v g s k n e to from rest y z xs st okay valid there m =
+-- a service with an argument
+pub put_after : (u v : Code) (g : Setting) (s : State) (k : Known u v s) (n e to from : ℕ) (service : Service) (rest : List Line) (y : ℕ → Value) (z : ℕ) (xs : List Frame) (st : Store) → Survives k.pf.home to (lives k.pf.live rest s.frame.spot.exit) → Valid k.pf.home k.pf.live rest s.frame.spot.exit → AllThere u rest → Held u v s k.pf.home (lives k.pf.live (Serve to service (Some from) ∷ rest) s.frame.spot.exit) y xs st → After u v g (twin s (put_line k.pf.home n (Serve to service (Some from)) (put_lines k.pf.home (n + numbers_kept) (past_cut s.frame.spot.exit (needed s.frame.spot.exit rest)) (exit_lines k.pf.home e s.frame.spot.exit))) (put_exit k.pf.home s.frame.spot.exit) y z xs st) (does u g (Serve to service (Some from)) rest s)
+put_after u v g s k n e to from service rest y z xs st okay valid there m =
     let h = k.pf.home in
     let after : ℕ → Bool = lives k.pf.live rest s.frame.spot.exit in
     let tail : List Line = Cut ReturnCut ∷ give (h to) (n + 2) (put_lines h (n + numbers_kept) (past_cut s.frame.spot.exit (needed s.frame.spot.exit rest)) (exit_lines h e s.frame.spot.exit)) in
     let exit : Exit = put_exit h s.frame.spot.exit in
-    let l : Loaded u v g s h (without to after) (s.frame.registers from) (into (h from) 10 n (PutChar 10 10 ∷ tail)) (PutChar 10 10 ∷ tail) exit 10 10 y z xs st =
-    into_home u v g s h (without to after) (s.frame.registers from) (h from) 10 n (PutChar 10 10 ∷ tail) exit y z xs st
+    let l : Loaded u v g s h (without to after) (s.frame.registers from) (into (h from) 10 n (Serve 10 service (Some 10) ∷ tail)) (Serve 10 service (Some 10) ∷ tail) exit 10 10 y z xs st =
+    into_home u v g s h (without to after) (s.frame.registers from) (h from) 10 n (Serve 10 service (Some 10) ∷ tail) exit y z xs st
     (λ q r t f. absurd (let d = split_without to q after t in let o = okay q d.0 d.1 in let c : InRegister r ≡ InSlot o.0 = sym f ∙ o.1 in cc))
     (λ i f. m.own from i f) (m.agrees from (or_left (from == from) _ (self from)))
     (held_less u v s h _ (without to after) y xs st (λ q t. without_live (q == from) q to after t) m) in
-    let t1 : State = twin s (PutChar 10 10 ∷ tail) exit l.y' z xs st in
+    let t1 : State = twin s (Serve 10 service (Some 10) ∷ tail) exit l.y' z xs st in
     after_first u v g l.n l.ev _ t1 _ l.walk l.silent
     (takes_after u v g t1 s.fuel s.output _ _ refl (λ fuel is.
     checked_after u v g t1 (number_of (s.frame.registers from)) _ (λ c f.
-    by fuel (nat_abs (wrap U8 c)) l.y' t1 (nat_lt (length s.output) g.capacity)
-    (is ∙ ap (λ q. on_checked q (λ c. puts v g 10 tail (nat_abs (wrap U8 c)) fuel t1)) (number_refines (s.frame.registers from) (l.y' 10) c l.value f)) l.held)))
-  where
-    by : (fuel byte : ℕ) (y1 : ℕ → Value) (t1 : State) (room : Bool) →
-        step v g t1 ≡ cond room (served v g 10 (Number (pos byte)) (Cut ReturnCut ∷ give (k.pf.home to) (n + 2) (put_lines k.pf.home (n + numbers_kept) (past_cut s.frame.spot.exit (needed s.frame.spot.exit rest)) (exit_lines k.pf.home e s.frame.spot.exit))) s.input (s.output ++ byte ∷ []) fuel (twin s [] (put_exit k.pf.home s.frame.spot.exit) y1 z xs st)) (served v g 10 (Number (negsuc 0)) (Cut ReturnCut ∷ give (k.pf.home to) (n + 2) (put_lines k.pf.home (n + numbers_kept) (past_cut s.frame.spot.exit (needed s.frame.spot.exit rest)) (exit_lines k.pf.home e s.frame.spot.exit))) s.input s.output fuel (twin s [] (put_exit k.pf.home s.frame.spot.exit) y1 z xs st)) →
-        Held u v s k.pf.home (without to (lives k.pf.live rest s.frame.spot.exit)) y1 xs st → After u v g t1 (cond room (served u g to (Number (pos byte)) rest s.input (s.output ++ byte ∷ []) fuel s) (served u g to (Number (negsuc 0)) rest s.input s.output fuel s))
-    by fuel byte y1 t1 true is m1 = served_after u v g s k n e to (Number (pos byte)) rest s.input (s.output ++ byte ∷ []) fuel t1 y1 z xs st okay valid there is m1
-    by fuel byte y1 t1 false is m1 = served_after u v g s k n e to (Number (negsuc 0)) rest s.input s.output fuel t1 y1 z xs st okay valid there is m1
+    let reply = serve service g.capacity c s.input s.output in
+    served_after u v g s k n e to (Number reply.value) rest reply.input reply.output fuel t1 l.y' z xs st okay valid there
+    (is ∙ ap (λ q. on_checked q (λ c. serves v g 10 service c tail fuel t1)) (number_refines (s.frame.registers from) (l.y' 10) c l.value f)) l.held)))

@@ -1,6 +1,7 @@
 -- All in slots is valid.
+use Rattle.std.specs.Prelude.{Some, None}
 use Rattle.std.proofs.Common.{◌≡◌, ◌≢◌, ℕ, ◌≤◌, Bool, [], ◌∷◌, sym, ◌∙◌}
-use Rattle.im_block.specs.declared.code.Line.TheVariants.{Put, PutNull, Copy, Convert, Unary, Not, Compute, Compare, Move, Distance, Address, Read, Write, Reload, Spill, Cut, Call, GetChar, PutChar}
+use Rattle.im_block.specs.declared.code.Line.TheVariants.{Put, PutNull, Copy, Convert, Unary, Not, Compute, Compare, Move, Distance, Address, Read, Write, Reload, Spill, Cut, Call, Serve}
 use Rattle.im_alloc_relation.specs.Homes.{Home, InRegister, InSlot}
 use Rattle.im_alloc_relation.specs.Placing.{KeepsHomes, Survives, Clear, SlotsLaw}
 
@@ -37,5 +38,5 @@ slots h each live (Reload to slot access ∷ rest) exit few = absurd few.0
 slots h each live (Spill slot from access ∷ rest) exit few = absurd few.0
 slots h each live (Cut cause ∷ rest) exit few = (tt, slots h each live rest exit few.1)
 slots h each live (Call to i first count ∷ rest) exit few = ((survives h to _ each, clear h first count each few.0), slots h each live rest exit few.1)
-slots h each live (GetChar to ∷ rest) exit few = (survives h to _ each, slots h each live rest exit few.1)
-slots h each live (PutChar to from ∷ rest) exit few = (survives h to _ each, slots h each live rest exit few.1)
+slots h each live (Serve to service None ∷ rest) exit few = (survives h to _ each, slots h each live rest exit few.1)
+slots h each live (Serve to service (Some from) ∷ rest) exit few = (survives h to _ each, slots h each live rest exit few.1)

@@ -1,13 +1,14 @@
 -- Every line but calls.
 use Rattle.std.proofs.Common.{◌≡◌, ℕ, ◌+◌, inl, inr, Bool, true, false, List, [], ◌∷◌, ◌++◌, sym, ap, ◌∙◌, subst, refl}
-use Rattle.std.specs.Prelude.{◌==◌, ◌&&◌, ◌||◌, not}
+use Rattle.std.specs.Prelude.{◌==◌, ◌&&◌, ◌||◌, not, Some, None}
 use Rattle.im_num.specs.declared.kind.Kind.{Kind}
 use Rattle.im_store.specs.Checks.{Checked, Fine}
 use Rattle.im_store.specs.Objects.{Value, Number, Null, Store}
 use Rattle.im_store.specs.Access.{with_value}
+use Rattle.im_serve.specs.declared.service.Service.{Service}
 use Rattle.im_block.specs.declared.code.Place.{Place}
 use Rattle.im_block.specs.declared.code.Line.{Line}
-use Rattle.im_block.specs.declared.code.Line.TheVariants.{Put, PutNull, Copy, Convert, Unary, Not, Compute, Compare, Move, Distance, Address, Read, Write, Reload, Spill, Cut, Call, GetChar, PutChar}
+use Rattle.im_block.specs.declared.code.Line.TheVariants.{Put, PutNull, Copy, Convert, Unary, Not, Compute, Compare, Move, Distance, Address, Read, Write, Reload, Spill, Cut, Call, Serve}
 use Rattle.im_block.specs.declared.code.Exit.{Exit}
 use Rattle.im_block.specs.declared.unit.Unit.{Unit as Code}
 use Rattle.im_block.specs.Meaning.{Setting, Event, Reads, Writes, Cuts, Frame, State, as_number, as_truth, negation, converted, computed_one, computed, compared, moved, distance_of, place_of, read_place, write_place, site_of, with_rest, computes, reads, writes, does, step}
@@ -138,7 +139,7 @@ write_line u v g s k n e rest place kind from access y z xs st valid there m =
     or_last false b t = t
 
 -- every line but calls, which come as arguments
-pub line_after : (u v : Code) (g : Setting) (s : State) (k : Known u v s) (n e : ℕ) (line : Line) (rest : List Line) (y : ℕ → Value) (z : ℕ) (xs : List Frame) (st : Store) → ((to i first count : ℕ) → line ≡ Call to i first count → After u v g (twin s (put_line k.pf.home n (Call to i first count) (put_lines k.pf.home (n + numbers_kept) (past_cut s.frame.spot.exit (needed s.frame.spot.exit rest)) (exit_lines k.pf.home e s.frame.spot.exit))) (put_exit k.pf.home s.frame.spot.exit) y z xs st) (does u g (Call to i first count) rest s)) → ((to : ℕ) → line ≡ GetChar to → After u v g (twin s (put_line k.pf.home n (GetChar to) (put_lines k.pf.home (n + numbers_kept) (past_cut s.frame.spot.exit (needed s.frame.spot.exit rest)) (exit_lines k.pf.home e s.frame.spot.exit))) (put_exit k.pf.home s.frame.spot.exit) y z xs st) (does u g (GetChar to) rest s)) → ((to from : ℕ) → line ≡ PutChar to from → After u v g (twin s (put_line k.pf.home n (PutChar to from) (put_lines k.pf.home (n + numbers_kept) (past_cut s.frame.spot.exit (needed s.frame.spot.exit rest)) (exit_lines k.pf.home e s.frame.spot.exit))) (put_exit k.pf.home s.frame.spot.exit) y z xs st) (does u g (PutChar to from) rest s)) → ValidLine k.pf.home line (lives k.pf.live rest s.frame.spot.exit) → Valid k.pf.home k.pf.live rest s.frame.spot.exit → AllThere u rest → Held u v s k.pf.home (lives k.pf.live (line ∷ rest) s.frame.spot.exit) y xs st → After u v g (twin s (put_line k.pf.home n line (put_lines k.pf.home (n + numbers_kept) (behind s.frame.spot.exit line (needed s.frame.spot.exit rest)) (exit_lines k.pf.home e s.frame.spot.exit))) (put_exit k.pf.home s.frame.spot.exit) y z xs st) (does u g line rest s)
+pub line_after : (u v : Code) (g : Setting) (s : State) (k : Known u v s) (n e : ℕ) (line : Line) (rest : List Line) (y : ℕ → Value) (z : ℕ) (xs : List Frame) (st : Store) → ((to i first count : ℕ) → line ≡ Call to i first count → After u v g (twin s (put_line k.pf.home n (Call to i first count) (put_lines k.pf.home (n + numbers_kept) (past_cut s.frame.spot.exit (needed s.frame.spot.exit rest)) (exit_lines k.pf.home e s.frame.spot.exit))) (put_exit k.pf.home s.frame.spot.exit) y z xs st) (does u g (Call to i first count) rest s)) → ((to : ℕ) (service : Service) → line ≡ Serve to service None → After u v g (twin s (put_line k.pf.home n (Serve to service None) (put_lines k.pf.home (n + numbers_kept) (past_cut s.frame.spot.exit (needed s.frame.spot.exit rest)) (exit_lines k.pf.home e s.frame.spot.exit))) (put_exit k.pf.home s.frame.spot.exit) y z xs st) (does u g (Serve to service None) rest s)) → ((to from : ℕ) (service : Service) → line ≡ Serve to service (Some from) → After u v g (twin s (put_line k.pf.home n (Serve to service (Some from)) (put_lines k.pf.home (n + numbers_kept) (past_cut s.frame.spot.exit (needed s.frame.spot.exit rest)) (exit_lines k.pf.home e s.frame.spot.exit))) (put_exit k.pf.home s.frame.spot.exit) y z xs st) (does u g (Serve to service (Some from)) rest s)) → ValidLine k.pf.home line (lives k.pf.live rest s.frame.spot.exit) → Valid k.pf.home k.pf.live rest s.frame.spot.exit → AllThere u rest → Held u v s k.pf.home (lives k.pf.live (line ∷ rest) s.frame.spot.exit) y xs st → After u v g (twin s (put_line k.pf.home n line (put_lines k.pf.home (n + numbers_kept) (behind s.frame.spot.exit line (needed s.frame.spot.exit rest)) (exit_lines k.pf.home e s.frame.spot.exit))) (put_exit k.pf.home s.frame.spot.exit) y z xs st) (does u g line rest s)
 line_after u v g s k n e (Put to x) rest y z xs st calls gets puts keeps valid there m = nullary u v g s k n e rest (λ a. Put a x) to (Number x) y z xs st valid there keeps (λ a tail. refl) m
 line_after u v g s k n e (PutNull to) rest y z xs st calls gets puts keeps valid there m = nullary u v g s k n e rest (λ a. PutNull a) to Null y z xs st valid there keeps (λ a tail. refl) m
 line_after u v g s k n e (Copy to from) rest y z xs st calls gets puts keeps valid there m = unary u v g s k n e rest (λ a b. Copy a b) to from (λ x. Fine x) (λ x. Fine x) y z xs st valid there keeps (λ a b y' tail. refl) same_value m
@@ -193,5 +194,5 @@ line_after u v g s k n e (Cut cause) rest y z xs st calls gets puts keeps valid 
     moved_held : Held u v s k.pf.home (lives k.pf.live rest s.frame.spot.exit) y xs st → Held u v (record s { frame = with_rest s.frame rest }) k.pf.home (lives k.pf.live rest s.frame.spot.exit) y xs st
     moved_held q = record { agrees = q.agrees; own = q.own; free = q.free; seen = q.seen; unseen = q.unseen; holds = q.holds; callers = q.callers; fresh = q.fresh }
 line_after u v g s k n e (Call to i first count) rest y z xs st calls gets puts keeps valid there m = calls to i first count refl
-line_after u v g s k n e (GetChar to) rest y z xs st calls gets puts keeps valid there m = gets to refl
-line_after u v g s k n e (PutChar to from) rest y z xs st calls gets puts keeps valid there m = puts to from refl
+line_after u v g s k n e (Serve to service None) rest y z xs st calls gets puts keeps valid there m = gets to service refl
+line_after u v g s k n e (Serve to service (Some from)) rest y z xs st calls gets puts keeps valid there m = puts to from service refl

@@ -195,8 +195,8 @@ step_by u v blocks pl g s k n e (line ∷ rest) y z xs st valid there m =
     let first : LineThere u.functions.items line = there 0 line refl in
     line_after u v g s k n e line rest y z xs st
     (λ to i from count f. call_after u v blocks pl g s k n e to i from count rest y z xs st (subst (λ q. ValidLine k.pf.home q (lives k.pf.live rest s.frame.spot.exit)) f valid.0) valid.1 (subst (λ q. LineThere u.functions.items q) f first) less (subst (λ q. Held u v s k.pf.home (lives k.pf.live (q ∷ rest) s.frame.spot.exit) y xs st) f m))
-    (λ to f. get_after u v g s k n e to rest y z xs st (subst (λ q. ValidLine k.pf.home q (lives k.pf.live rest s.frame.spot.exit)) f valid.0) valid.1 less (subst (λ q. Held u v s k.pf.home (lives k.pf.live (q ∷ rest) s.frame.spot.exit) y xs st) f m))
-    (λ to from f. put_after u v g s k n e to from rest y z xs st (subst (λ q. ValidLine k.pf.home q (lives k.pf.live rest s.frame.spot.exit)) f valid.0) valid.1 less (subst (λ q. Held u v s k.pf.home (lives k.pf.live (q ∷ rest) s.frame.spot.exit) y xs st) f m))
+    (λ to service f. get_after u v g s k n e to service rest y z xs st (subst (λ q. ValidLine k.pf.home q (lives k.pf.live rest s.frame.spot.exit)) f valid.0) valid.1 less (subst (λ q. Held u v s k.pf.home (lives k.pf.live (q ∷ rest) s.frame.spot.exit) y xs st) f m))
+    (λ to from service f. put_after u v g s k n e to from service rest y z xs st (subst (λ q. ValidLine k.pf.home q (lives k.pf.live rest s.frame.spot.exit)) f valid.0) valid.1 less (subst (λ q. Held u v s k.pf.home (lives k.pf.live (q ∷ rest) s.frame.spot.exit) y xs st) f m))
     valid.0 valid.1 less m
 
 -- where the cut behind a call is next, and no loop edge's, it was put with the call

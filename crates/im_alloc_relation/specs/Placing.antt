@@ -2,7 +2,7 @@
 use Rattle.std.specs.Prelude.{◌≡◌, ◌≢◌, ◌<◌, ◌≤◌, ◌⊎◌, ℕ, suc, ◌+◌, ◌*◌, Bool, true, List, [], ◌∷◌, Option, Some, None, length, slice_get}
 use Rattle.im_store.specs.Outcomes.{Outcome, IsDefined}
 use Rattle.im_block.specs.declared.code.Line.{Line}
-use Rattle.im_block.specs.declared.code.Line.TheVariants.{Put, PutNull, Copy, Convert, Unary, Not, Compute, Compare, Move, Distance, Address, Read, Write, Reload, Spill, Cut, Call, GetChar, PutChar}
+use Rattle.im_block.specs.declared.code.Line.TheVariants.{Put, PutNull, Copy, Convert, Unary, Not, Compute, Compare, Move, Distance, Address, Read, Write, Reload, Spill, Cut, Call, Serve}
 use Rattle.im_block.specs.declared.code.Exit.{Exit}
 use Rattle.im_block.specs.declared.code.Block.{Block}
 use Rattle.im_block.specs.declared.unit.Registers.TheVariants.{Virtual, Machine}
@@ -45,8 +45,7 @@ ValidLine h (Reload to slot access) after = ⊥
 ValidLine h (Spill slot from access) after = ⊥
 ValidLine h (Cut cause) after = Unit {0}
 ValidLine h (Call to i first count) after = Survives h to after × Clear h first count
-ValidLine h (GetChar to) after = Survives h to after
-ValidLine h (PutChar to from) after = Survives h to after
+ValidLine h (Serve to service from) after = Survives h to after
 
 abbrev pub Valid : (ℕ → Home) → (ℕ → ℕ → Bool) → List Line → Exit → Type 0
 Valid h live [] exit = Unit {0}

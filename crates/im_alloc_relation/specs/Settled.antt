@@ -1,7 +1,7 @@
 -- Placed code that sets each register before it uses it, on each way from the entry, where arguments come in x10 and on.
-use Rattle.std.specs.Prelude.{◌≡◌, ℕ, ◌+◌, ◌<◌, ◌≤◌, Bool, true, List, [], ◌∷◌, Some, slice_get}
+use Rattle.std.specs.Prelude.{◌≡◌, ℕ, ◌+◌, ◌<◌, ◌≤◌, Bool, true, List, [], ◌∷◌, Some, slice_get, None}
 use Rattle.im_block.specs.declared.code.Line.{Line}
-use Rattle.im_block.specs.declared.code.Line.TheVariants.{Call, GetChar, PutChar}
+use Rattle.im_block.specs.declared.code.Line.TheVariants.{Call, Serve}
 use Rattle.im_block.specs.declared.code.Exit.{Exit}
 use Rattle.im_block.specs.declared.code.Block.{Block}
 use Rattle.im_block.specs.declared.unit.Function.{Function}
@@ -10,8 +10,7 @@ use Rattle.im_alloc_relation.specs.Live.{lives}
 
 abbrev pub IsCall : Line → Type 0
 IsCall (Call to i first count) = Unit {0}
-IsCall (GetChar to) = Unit {0}
-IsCall (PutChar to from) = Unit {0}
+IsCall (Serve to service from) = Unit {0}
 IsCall line = ⊥
 
 -- behind a call no register lives but the result's. wanted b: the registers that live at the start of block b

@@ -1,18 +1,16 @@
 -- A run passes each line at most once, and once more for each unit of fuel.
 use Rattle.std.proofs.Common.{◌≡◌, ℕ, zero, suc, ◌+◌, ◌*◌, ◌<◌, ◌≤◌, List, [], ◌∷◌, Bool, true, false, Option, Some, None, refl, sym, ap, ◌∙◌, subst, arith}
-use Rattle.std.specs.Prelude.{slice_get, nat_abs, nat_le, nat_lt, length, if◌then◌else◌}
-use Rattle.im_num.specs.Kinds.{wrap}
-use Rattle.im_num.specs.declared.kind.Kind.TheVariants.{U8}
+use Rattle.std.specs.Prelude.{slice_get, nat_le, if◌then◌else◌}
 use Rattle.im_store.specs.Checks.{Checked, Fine, Bad}
 use Rattle.im_store.specs.Objects.{Value, Number, Null, Unset, Store}
 use Rattle.im_block.specs.declared.code.Line.{Line}
-use Rattle.im_block.specs.declared.code.Line.TheVariants.{Put, PutNull, Copy, Convert, Unary, Not, Compute, Compare, Move, Distance, Address, Read, Write, Reload, Spill, Cut, Call, GetChar, PutChar}
+use Rattle.im_block.specs.declared.code.Line.TheVariants.{Put, PutNull, Copy, Convert, Unary, Not, Compute, Compare, Move, Distance, Address, Read, Write, Reload, Spill, Cut, Call, Serve}
 use Rattle.im_block.specs.declared.code.Exit.{Exit}
 use Rattle.im_block.specs.declared.code.Exit.TheVariants.{Jump, Turn, Branch, Return}
 use Rattle.im_block.specs.declared.code.Block.{Block}
 use Rattle.im_block.specs.declared.unit.Function.{Function}
 use Rattle.im_block.specs.declared.unit.Unit.{Unit as Code}
-use Rattle.im_block.specs.Meaning.{Setting, Site, site_of, slot_site, Event, Reads, Writes, Serves, Cuts, Found, Left, with_register, computes, reads, writes, Active, Frame, State, Next, Goes, Stops, on_checked, takes, found, with_rest, at_block, sets, activates, waiting, enters, served, gets, puts, does, goes_to, back, leaves, step_at, step, number_of, condition, next_active}
+use Rattle.im_block.specs.Meaning.{Setting, Site, site_of, slot_site, Event, Reads, Writes, Serves, Cuts, Found, Left, with_register, computes, reads, writes, Active, Frame, State, Next, Goes, Stops, on_checked, takes, found, with_rest, at_block, sets, activates, waiting, enters, served, argument, does, goes_to, back, leaves, step_at, step, number_of, condition, next_active}
 use Rattle.im_block.specs.Runs.{start, before}
 use Rattle.im_block.specs.Shape.{Descends, AllOrdered, Weights, sum_of, sum_below, block_weight, blocks_weight, total, line_weight, next_weight, spot_weight, after, spent}
 use Rattle.im_block.proofs.Words.{found_is}
@@ -196,21 +194,11 @@ module _ (u : Code) (g : Setting) (w : Weights) where
       let within = function_within w u.functions.items i f at_f in
       omega arith))
 
-  -- a built-in function
+  -- a service
   served_pays : (s : State) (line : Line) (to : ℕ) (v : Value) (rest : List Line) (input output : List ℕ) (less : ℕ) → s.frame.spot.rest ≡ line ∷ rest → s.fuel ≡ suc less → Sound s → Pays (potential s) (w.line line + w.routine) (served u g to v rest input output less s)
   served_pays s line to v rest input output less e paid sound =
       let more = more_fuel s less paid in
       line_pays s line rest _ s.store input output less w.routine (Serves ∷ []) e (omega arith) sound
-
-  gets_pays : (s : State) (to : ℕ) (rest : List Line) (input : List ℕ) (less : ℕ) → s.frame.spot.rest ≡ GetChar to ∷ rest → s.fuel ≡ suc less → Sound s → Pays (potential s) (w.line (GetChar to) + w.routine) (gets u g to rest input less s)
-  gets_pays s to rest [] less e paid sound = served_pays s (GetChar to) to _ rest _ _ less e paid sound
-  gets_pays s to rest (byte ∷ input) less e paid sound = served_pays s (GetChar to) to _ rest _ _ less e paid sound
-
-  puts_pays : (s : State) (to from : ℕ) (rest : List Line) (byte less : ℕ) → s.frame.spot.rest ≡ PutChar to from ∷ rest → s.fuel ≡ suc less → Sound s → Pays (potential s) (w.line (PutChar to from) + w.routine) (puts u g to rest byte less s)
-  puts_pays s to from rest byte less e paid sound =
-      either_pays (potential s) (w.line (PutChar to from) + w.routine) (nat_lt (length s.output) g.capacity) _ _
-      (served_pays s (PutChar to from) to _ rest _ _ less e paid sound)
-      (served_pays s (PutChar to from) to _ rest _ _ less e paid sound)
 
   does_pays : (s : State) (line : Line) (rest : List Line) → AllOrdered u → s.frame.spot.rest ≡ line ∷ rest → Sound s → Pays (potential s) (line_weight w line) (does u g line rest s)
   does_pays s (Put to z) rest ordered e sound = computes_pays s _ to (Fine (Number z)) rest e sound
@@ -230,13 +218,11 @@ module _ (u : Code) (g : Setting) (w : Weights) where
   does_pays s (Spill slot from access) rest ordered e sound = writes_pays s _ (slot_site access slot) _ rest e sound
   does_pays s (Cut cause) rest ordered e sound = plain_pays s (Cut cause) rest s.frame.registers s.store (Cuts ∷ []) e sound
   does_pays s (Call to i first count) rest ordered e sound = call_pays s to i first count rest ordered e sound
-  does_pays s (GetChar to) rest ordered e sound =
-      let here = rest_is s (GetChar to) rest e in
-      takes_pays (potential s) (w.line (GetChar to) + w.routine) s.fuel s.output _ (omega arith) (λ less paid. gets_pays s to rest s.input less e paid sound)
-  does_pays s (PutChar to from) rest ordered e sound =
-      let here = rest_is s (PutChar to from) rest e in
-      takes_pays (potential s) (w.line (PutChar to from) + w.routine) s.fuel s.output _ (omega arith) (λ less paid.
-      checked_pays (potential s) (w.line (PutChar to from) + w.routine) (number_of (s.frame.registers from)) _ (omega arith) (λ z is. puts_pays s to from rest (nat_abs (wrap U8 z)) less e paid sound))
+  does_pays s (Serve to service from) rest ordered e sound =
+      let here = rest_is s (Serve to service from) rest e in
+      takes_pays (potential s) (w.line (Serve to service from) + w.routine) s.fuel s.output _ (omega arith) (λ less paid.
+      checked_pays (potential s) (w.line (Serve to service from) + w.routine) (argument from s.frame.registers) _ (omega arith) (λ z is.
+      served_pays s (Serve to service from) to _ rest _ _ less e paid sound))
 
   step_pays : (s : State) (lines : List Line) → AllOrdered u → s.frame.spot.rest ≡ lines → Sound s → Pays (potential s) (next_weight w lines s.frame.spot.exit) (step_at u g lines s)
   step_pays s [] ordered e sound = leaves_pays s s.frame.spot.exit ordered refl e sound

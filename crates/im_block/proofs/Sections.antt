@@ -1,22 +1,20 @@
 -- Runs of sectioned code write no exposed byte.
 use Rattle.std.proofs.Common.{◌≡◌, ℕ, zero, suc, List, [], ◌∷◌, ◌++◌, Bool, true, false, Some, refl, sym, ap, ◌∙◌, subst, append_assoc, inl, inr}
-use Rattle.std.specs.Prelude.{slice_get, nat_abs, pos, negsuc, nat_le, nat_lt, length, if◌then◌else◌}
+use Rattle.std.specs.Prelude.{slice_get, nat_le, length, if◌then◌else◌}
 use Rattle.std.proofs.lemmas.List.{append-nil}
-use Rattle.im_num.specs.Kinds.{wrap}
-use Rattle.im_num.specs.declared.kind.Kind.TheVariants.{U8}
 use Rattle.im_num.specs.declared.values.Cause.{Cause}
 use Rattle.im_store.specs.Checks.{Checked, Fine, Bad}
 use Rattle.im_store.specs.Objects.{Slot, Link, Object, Value, Number, Null, Unset}
 use Rattle.im_store.specs.Outcomes.{Outcome}
 use Rattle.im_block.specs.declared.access.Tags.{Tags}
 use Rattle.im_block.specs.declared.code.Line.{Line}
-use Rattle.im_block.specs.declared.code.Line.TheVariants.{Put, PutNull, Copy, Convert, Unary, Not, Compute, Compare, Move, Distance, Address, Read, Write, Reload, Spill, Cut, Call, GetChar, PutChar}
+use Rattle.im_block.specs.declared.code.Line.TheVariants.{Put, PutNull, Copy, Convert, Unary, Not, Compute, Compare, Move, Distance, Address, Read, Write, Reload, Spill, Cut, Call, Serve}
 use Rattle.im_block.specs.declared.code.Exit.{Exit}
 use Rattle.im_block.specs.declared.code.Exit.TheVariants.{Jump, Turn, Branch, Return}
 use Rattle.im_block.specs.declared.code.Block.{Block}
 use Rattle.im_block.specs.declared.unit.Function.{Function}
 use Rattle.im_block.specs.declared.unit.Unit.{Unit as Code}
-use Rattle.im_block.specs.Meaning.{object_of, Setting, Site, site_of, slot_site, slot_of, statics_of, Location, Event, Reads, Writes, Tests, Saves, Restores, Serves, Cuts, Found, Left, Spot, Active, Frame, State, Next, Goes, Stops, on_checked, takes, found, kept_by, with_rest, with_register, at_block, sets, computes, reads, writes, waiting, enters, served, gets, does, goes_to, back, leaves, step_at, step, number_of, condition, next_active}
+use Rattle.im_block.specs.Meaning.{object_of, Setting, Site, site_of, slot_site, slot_of, statics_of, Location, Event, Reads, Writes, Tests, Saves, Restores, Serves, Cuts, Found, Left, Spot, Active, Frame, State, Next, Goes, Stops, on_checked, takes, found, kept_by, with_rest, with_register, at_block, sets, computes, reads, writes, waiting, enters, served, argument, does, goes_to, back, leaves, step_at, step, number_of, condition, next_active}
 use Rattle.im_block.specs.Runs.{start, before, Over, goes_on, exec, Runs}
 use Rattle.im_block.specs.Sections.{Item, Reader, Writer, Break, Has, Exposed, NoWar, NoWarAfter, Byte, bytes_of, link_bytes, items}
 use Rattle.im_block.specs.Tagged.{tag_of, reach_of, Reaches, HoldsAt, AllHold}
@@ -65,8 +63,7 @@ calls_past (Reload to slot access) rest h = h
 calls_past (Spill slot from access) rest h = h
 calls_past (Cut cause) rest h = h
 calls_past (Call to i first count) rest h = h.1
-calls_past (GetChar to) rest h = h.1
-calls_past (PutChar to from) rest h = h.1
+calls_past (Serve to service from) rest h = h.1
 
 items-append : (a b : List Event) → items (a ++ b) ≡ items a ++ items b
 items-append [] b = refl
@@ -343,10 +340,6 @@ module _ (u : Code) (tags : Tags) (g : Setting) (forced : AllForced u) (sectione
   served_keeps s section line to v rest input output fuel e uncut none t =
       silent_keeps s section line rest (with_register (kept_by (slice_get u.functions.items s.frame.function) s.frame.registers) to v) input output fuel (Serves ∷ []) refl e uncut none t
 
-  gets_keeps : (s : State) (section : List (Item Byte)) (to : ℕ) (rest : List Line) (input : List ℕ) (fuel : ℕ) → s.frame.spot.rest ≡ GetChar to ∷ rest → Tracked s section → Keeps section (gets u g to rest input fuel s)
-  gets_keeps s section to rest [] fuel e t = served_keeps s section (GetChar to) to (Number (negsuc 0)) rest [] s.output fuel e (λ h. h) refl t
-  gets_keeps s section to rest (byte ∷ input) fuel e t = served_keeps s section (GetChar to) to (Number (pos byte)) rest input s.output fuel e (λ h. h) refl t
-
   -- an access to a place, an access to a slot
   touched_at : (site : Site) (by : Active) (o : Object) (offset : ℕ) → Reaches statics (reach_of tags site) by o offset → (o.name ≡ Link → ⊥) → Touched statics tags by site (bytes_of o offset site.size)
   touched_at site by o offset h other = record {
@@ -388,13 +381,10 @@ module _ (u : Code) (tags : Tags) (g : Setting) (forced : AllForced u) (sectione
       (λ l fine. slot_write_leaves (slot_of slot s.frame.active) (s.frame.registers from) s.store l fine) t
   does_keeps s section (Cut cause) rest e t = cut_keeps s section cause rest e t
   does_keeps s section (Call to i first count) rest e t = call_keeps s section to i first count rest e t
-  does_keeps s section (GetChar to) rest e t = takes_keeps section s.fuel s.output _ (λ less. gets_keeps s section to rest s.input less e t)
-  does_keeps s section (PutChar to from) rest e t =
+  does_keeps s section (Serve to service from) rest e t =
       takes_keeps section s.fuel s.output _ (λ less.
-      checked_keeps section (number_of (s.frame.registers from)) _ (λ z _.
-      either_keeps section (nat_lt (length s.output) g.capacity) _ _
-      (served_keeps s section (PutChar to from) to (Number (pos (nat_abs (wrap U8 z)))) rest s.input (s.output ++ nat_abs (wrap U8 z) ∷ []) less e (λ h. h) refl t)
-      (served_keeps s section (PutChar to from) to (Number (negsuc 0)) rest s.input s.output less e (λ h. h) refl t)))
+      checked_keeps section (argument from s.frame.registers) _ (λ z _.
+      served_keeps s section (Serve to service from) to _ rest _ _ less e (λ h. h) refl t))
 
   step_keeps : (s : State) (section : List (Item Byte)) (lines : List Line) → s.frame.spot.rest ≡ lines → Tracked s section → Keeps section (step_at u g lines s)
   step_keeps s section [] e t = leaves_keeps s section s.frame.spot.exit refl e t

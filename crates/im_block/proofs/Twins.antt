@@ -1,20 +1,18 @@
 -- Code with further cuts does the same.
 use Rattle.std.proofs.Common.{◌≡◌, ℕ, zero, suc, List, [], ◌∷◌, ◌++◌, Bool, true, false, Option, Some, None, refl, sym, ap, ◌∙◌, subst}
-use Rattle.std.specs.Prelude.{slice_get, nat_abs, pos, negsuc, nat_le, nat_lt, length, if◌then◌else◌}
+use Rattle.std.specs.Prelude.{slice_get, pos, nat_le, if◌then◌else◌}
 use Rattle.std.proofs.lemmas.List.{append-nil}
-use Rattle.im_num.specs.Kinds.{wrap}
-use Rattle.im_num.specs.declared.kind.Kind.TheVariants.{U8}
 use Rattle.im_store.specs.Checks.{Checked, Fine, Bad}
 use Rattle.im_store.specs.Objects.{Value, Number, Null, Unset, Store}
 use Rattle.im_store.specs.Outcomes.{Outcome}
 use Rattle.im_block.specs.declared.code.Line.{Line}
-use Rattle.im_block.specs.declared.code.Line.TheVariants.{Put, PutNull, Copy, Convert, Unary, Not, Compute, Compare, Move, Distance, Address, Read, Write, Reload, Spill, Cut, Call, GetChar, PutChar}
+use Rattle.im_block.specs.declared.code.Line.TheVariants.{Put, PutNull, Copy, Convert, Unary, Not, Compute, Compare, Move, Distance, Address, Read, Write, Reload, Spill, Cut, Call, Serve}
 use Rattle.im_block.specs.declared.code.Exit.{Exit}
 use Rattle.im_block.specs.declared.code.Exit.TheVariants.{Jump, Turn, Branch, Return}
 use Rattle.im_block.specs.declared.code.Block.{Block}
 use Rattle.im_block.specs.declared.unit.Function.{Function}
 use Rattle.im_block.specs.declared.unit.Unit.{Unit as Code}
-use Rattle.im_block.specs.Meaning.{Setting, Site, Event, Reads, Writes, Tests, Saves, Restores, Serves, Cuts, Found, Left, Active, Frame, State, Next, Goes, Stops, on_checked, takes, found, kept_by, with_rest, with_register, sets, computes, reads, writes, activates, waiting, passed, begun_by, enters, served, gets, does, goes_to, back, leaves, step_at, number_of, condition, next_active, ended}
+use Rattle.im_block.specs.Meaning.{Setting, Site, Event, Reads, Writes, Tests, Saves, Restores, Serves, Cuts, Found, Left, Active, Frame, State, Next, Goes, Stops, on_checked, takes, found, kept_by, with_rest, with_register, sets, computes, reads, writes, activates, waiting, passed, begun_by, enters, served, argument, does, goes_to, back, leaves, step_at, number_of, condition, next_active, ended}
 use Rattle.im_block.specs.Runs.{start, before, Over, goes_on, exec, uncut}
 use Rattle.im_block.specs.Shape.{IsOrdered, AllOrdered, Descends}
 use Rattle.im_block.specs.Uncut.{WithCuts, Empty, Same, Added, SameBlock, SameBlocks, SameFunction, SameFunctions, SameButCuts, KeptButCuts}
@@ -200,10 +198,6 @@ module _ (u w : Code) (g : Setting) (all : SameFunctions u.functions.items w.fun
     },
   )
 
-  gets_twin : (s : State) (to : ℕ) (rest rest' before : List Line) (input : List ℕ) (fuel : ℕ) (callers : List Frame) → SameCallers s.callers callers → WithCuts rest rest' → NextTwin (gets u g to rest input fuel s) (gets v g to rest' input fuel (twin s before callers))
-  gets_twin s to rest rest' before [] fuel callers waiting e = served_twin s to (Number (negsuc 0)) rest rest' before [] s.output fuel callers waiting e
-  gets_twin s to rest rest' before (byte ∷ input) fuel callers waiting e = served_twin s to (Number (pos byte)) rest rest' before input s.output fuel callers waiting e
-
   does_twin : (s : State) (line : Line) (rest rest' before : List Line) (callers : List Frame) → SameCallers s.callers callers → WithCuts rest rest' → NextTwin (does u g line rest s) (does v g line rest' (twin s before callers))
   does_twin s (Put to z) rest rest' before callers waiting e = computes_twin s to (Fine (Number z)) rest rest' before callers waiting e
   does_twin s (PutNull to) rest rest' before callers waiting e = computes_twin s to (Fine Null) rest rest' before callers waiting e
@@ -224,14 +218,9 @@ module _ (u w : Code) (g : Setting) (all : SameFunctions u.functions.items w.fun
   does_twin s (Call to i first count) rest rest' before callers same e =
       takes_twin s.fuel s.output _ _ (λ fuel.
       enters_twin s i first count fuel s.frame.registers s.frame.registers (waiting u g s.frame to rest ∷ s.callers) (waiting v g (twin s before callers).frame to rest' ∷ callers) before callers refl (waiting_twin s to rest rest' before callers e, same))
-  does_twin s (GetChar to) rest rest' before callers waiting e =
-      takes_twin s.fuel s.output _ _ (λ fuel. gets_twin s to rest rest' before s.input fuel callers waiting e)
-  does_twin s (PutChar to from) rest rest' before callers waiting e =
+  does_twin s (Serve to service from) rest rest' before callers waiting e =
       takes_twin s.fuel s.output _ _ (λ fuel.
-      checked_twin (number_of (s.frame.registers from)) _ _ (λ z.
-      either_twin (nat_lt (length s.output) g.capacity) _ _ _ _
-      (served_twin s to (Number (pos (nat_abs (wrap U8 z)))) rest rest' before s.input (s.output ++ nat_abs (wrap U8 z) ∷ []) fuel callers waiting e)
-      (served_twin s to (Number (negsuc 0)) rest rest' before s.input s.output fuel callers waiting e)))
+      checked_twin (argument from s.frame.registers) _ _ (λ z. served_twin s to _ rest rest' before _ _ fuel callers waiting e))
 
   back_twin : (s : State) (before : List Line) (callers callers' : List Frame) (value : Value) → SameCallers callers callers' → NextTwin (back u g callers value s) (back v g callers' value (twin s before callers'))
   back_twin s before [] [] value h = checked_twin (number_of value) _ _ (λ n. (refl, refl))

@@ -4,7 +4,7 @@ use Rattle.std.specs.Prelude.{slice_get, All}
 use Rattle.std.proofs.lemmas.List.Elements.{All-nil, All-cons, All-head, All-tail, All-weaker}
 use Rattle.im_num.specs.declared.values.Cause.{Cause}
 use Rattle.im_block.specs.declared.code.Line.{Line}
-use Rattle.im_block.specs.declared.code.Line.TheVariants.{Put, Cut, Call, GetChar, PutChar}
+use Rattle.im_block.specs.declared.code.Line.TheVariants.{Put, Cut, Call, Serve}
 use Rattle.im_block.specs.declared.code.Exit.{Exit}
 use Rattle.im_block.specs.declared.code.Exit.TheVariants.{Jump, Turn, Branch, Return}
 use Rattle.im_block.specs.declared.code.Block.{Block}
@@ -27,8 +27,8 @@ starts_kept old new (Added cause a b d) h = tt
 calls_kept : (old new : List Line) → WithCuts old new → CutAfterCalls old → CutAfterCalls new
 calls_kept old new Empty h = tt
 calls_kept old new (Same (Call to i first count) a b d) h = (starts_kept a b d h.0, calls_kept a b d h.1)
-calls_kept old new (Same (GetChar to) a b d) h = (starts_kept a b d h.0, calls_kept a b d h.1)
-calls_kept old new (Same (PutChar to from) a b d) h = (starts_kept a b d h.0, calls_kept a b d h.1)
+calls_kept old new (Same (Serve to service None) a b d) h = (starts_kept a b d h.0, calls_kept a b d h.1)
+calls_kept old new (Same (Serve to service (Some from)) a b d) h = (starts_kept a b d h.0, calls_kept a b d h.1)
 calls_kept old new (Same line a b d) h = calls_kept a b d h
 calls_kept old new (Added cause a b d) h = calls_kept old b d h
 

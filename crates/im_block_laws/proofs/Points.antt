@@ -8,9 +8,10 @@ use Rattle.im_store.specs.Checks.{Checked, Fine, Bad}
 use Rattle.im_store.specs.Objects.{Named, Value, Number, Null, Unset, Store, ends}
 use Rattle.im_store.specs.Statics.{with_statics, static_values}
 use Rattle.im_store.specs.Outcomes.{Outcome}
+use Rattle.im_serve.specs.Services.{serve}
 use Rattle.im_block.specs.declared.access.Tags.{Tags}
 use Rattle.im_block.specs.declared.code.Line.{Line}
-use Rattle.im_block.specs.declared.code.Line.TheVariants.{Put, PutNull, Copy, Convert, Unary, Not, Compute, Compare, Move, Distance, Address, Read, Write, Reload, Spill, Cut, Call, GetChar, PutChar}
+use Rattle.im_block.specs.declared.code.Line.TheVariants.{Put, PutNull, Copy, Convert, Unary, Not, Compute, Compare, Move, Distance, Address, Read, Write, Reload, Spill, Cut, Call, Serve}
 use Rattle.im_block.specs.declared.code.Exit.{Exit}
 use Rattle.im_block.specs.declared.code.Exit.TheVariants.{Jump, Turn, Branch, Return}
 use Rattle.im_block.specs.declared.code.Block.{Block}
@@ -18,7 +19,7 @@ use Rattle.im_block.specs.declared.unit.Registers.{Registers}
 use Rattle.im_block.specs.declared.unit.Registers.TheVariants.{Virtual, Machine}
 use Rattle.im_block.specs.declared.unit.Function.{Function}
 use Rattle.im_block.specs.declared.unit.Unit.{Unit as Code}
-use Rattle.im_block.specs.Meaning.{Setting, Event, Active, Frame, State, Next, Goes, Stops, on_checked, takes, found, kept, kept_by, with_register, sets, computes, begun_by, waiting, passed, enters, served, gets, does, goes_to, back, leaves, step_at, step, number_of, condition, returned, next_active, statics_of}
+use Rattle.im_block.specs.Meaning.{Setting, Event, Active, Frame, State, Next, Goes, Stops, on_checked, takes, found, kept, kept_by, with_register, sets, computes, begun_by, waiting, passed, enters, served, does, goes_to, back, leaves, step_at, step, number_of, condition, returned, next_active, statics_of}
 use Rattle.im_block.specs.Runs.{start, before, Over, goes_on, exec}
 use Rattle.im_block.specs.Sections.{Has}
 use Rattle.im_block.specs.Tagged.{tag_of, AllHold, IsSound}
@@ -230,10 +231,6 @@ module _ (u : Code) (points : Points) (tags : Tags) (closed : IsClosed points u)
     (tt, tt),
   )
 
-  gets_good : (s : State) (to : ℕ) (rest : List Line) (input : List ℕ) (fuel : ℕ) → s.frame.spot.rest ≡ GetChar to ∷ rest → Ok s → Good (gets u g to rest input fuel s)
-  gets_good s to rest [] fuel e ok = served_good s (GetChar to) to (Number (negsuc 0)) rest [] s.output fuel tt e ok
-  gets_good s to rest (byte ∷ input) fuel e ok = served_good s (GetChar to) to (Number (pos byte)) rest input s.output fuel tt e ok
-
   does_good : (s : State) (line : Line) (rest : List Line) → s.frame.spot.rest ≡ line ∷ rest → Ok s → Good (does u g line rest s)
   does_good s (Put to z) rest e ok = computes_good s _ to (Fine (Number z)) rest e (λ v is. (let same : Number z ≡ v = cc in subst (ValueIn (Has (points.register s.frame.function to))) same tt)) ok
   does_good s (PutNull to) rest e ok = computes_good s _ to (Fine Null) rest e (λ v is. (let same : Null ≡ v = cc in subst (ValueIn (Has (points.register s.frame.function to))) same tt)) ok
@@ -277,13 +274,15 @@ module _ (u : Code) (points : Points) (tags : Tags) (closed : IsClosed points u)
   does_good s (Cut cause) rest e ok =
       (record { frame = record { registers = ok.frame.registers; lines = lines_next s (Cut cause) rest e ok }; callers = ok.callers; store = ok.store }, (tt, tt))
   does_good s (Call to callee first count) rest e ok = call_good s to callee first count rest e ok
-  does_good s (GetChar to) rest e ok = takes_good s.fuel s.output _ (λ less. gets_good s to rest s.input less e ok)
-  does_good s (PutChar to from) rest e ok =
+  does_good s (Serve to service None) rest e ok =
+      takes_good s.fuel s.output _ (λ less.
+      let reply = serve service g.capacity (pos 0) s.input s.output in
+      served_good s (Serve to service None) to (Number reply.value) rest reply.input reply.output less tt e ok)
+  does_good s (Serve to service (Some from)) rest e ok =
       takes_good s.fuel s.output _ (λ less.
       checked_good (number_of (s.frame.registers from)) _ (λ z is.
-      either_good (nat_lt (length s.output) g.capacity) _ _
-      (served_good s (PutChar to from) to (Number (pos (nat_abs (wrap U8 z)))) rest s.input (s.output ++ nat_abs (wrap U8 z) ∷ []) less tt e ok)
-      (served_good s (PutChar to from) to (Number (negsuc 0)) rest s.input s.output less tt e ok)))
+      let reply = serve service g.capacity z s.input s.output in
+      served_good s (Serve to service (Some from)) to (Number reply.value) rest reply.input reply.output less tt e ok))
 
   step_good : (s : State) (lines : List Line) → s.frame.spot.rest ≡ lines → Ok s → Good (step_at u g lines s)
   step_good s [] e ok = leaves_good s s.frame.spot.exit refl ok

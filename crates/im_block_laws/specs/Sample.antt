@@ -15,10 +15,11 @@ use Rattle.im_num.specs.Variables.{Variable}
 use Rattle.im_ctype.specs.declared.cell.Cell.{Cell}
 use Rattle.im_store.specs.declared.operators.BinaryOp.TheVariants.{Add, Subtract}
 use Rattle.im_store.specs.Outcomes.{Outcome, More, End}
+use Rattle.im_serve.specs.declared.service.Service.TheVariants.{Putchar}
 use Rattle.im_block.specs.declared.code.Place.{Place}
 use Rattle.im_block.specs.declared.code.Place.TheVariants.{Static, Local}
 use Rattle.im_block.specs.declared.code.Line.{Line}
-use Rattle.im_block.specs.declared.code.Line.TheVariants.{Put, Compute, Read, Write, Call, PutChar}
+use Rattle.im_block.specs.declared.code.Line.TheVariants.{Put, Compute, Read, Write, Call, Serve}
 use Rattle.im_block.specs.declared.code.Exit.{Exit}
 use Rattle.im_block.specs.declared.code.Exit.TheVariants.{Jump, Turn, Branch, Return}
 use Rattle.im_block.specs.declared.code.Block.{Block}
@@ -50,7 +51,7 @@ add_lines =
 abbrev pub main_lines : List Line
 main_lines =
     read_int 0 (Static 0 0) 9 ∷ Read 1 (Static 0 4) U8 10 ∷ Write (Static 1 0) I32 0 11 ∷ Write (Static 1 4) U8 1 12
-    ∷ Put 0 (pos 3) ∷ Call 0 0 0 1 ∷ Read 1 (Static 1 4) U8 13 ∷ Compute 0 Add I32 0 1 ∷ PutChar 0 0 ∷ read_int 0 (Static 1 0) 14 ∷ []
+    ∷ Put 0 (pos 3) ∷ Call 0 0 0 1 ∷ Read 1 (Static 1 4) U8 13 ∷ Compute 0 Add I32 0 1 ∷ Serve 0 Putchar (Some 0) ∷ read_int 0 (Static 1 0) 14 ∷ []
 
 module _ (memory : Global) where
   abbrev pub vec : {A : Type 0} (xs : List A) → length xs < 2 ^ 63 → Vec A Global

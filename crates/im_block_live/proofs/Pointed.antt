@@ -9,7 +9,7 @@ use Rattle.std.proofs.lemmas.List.Elements.{All-head, All-tail, All-weaker}
 use Rattle.im_block.specs.declared.code.Place.{Place}
 use Rattle.im_block.specs.declared.code.Place.TheVariants.{Static, Local, Through}
 use Rattle.im_block.specs.declared.code.Line.{Line}
-use Rattle.im_block.specs.declared.code.Line.TheVariants.{Put, PutNull, Copy, Convert, Unary, Not, Compute, Compare, Move, Distance, Address, Read, Write, Reload, Spill, Cut, Call, GetChar, PutChar}
+use Rattle.im_block.specs.declared.code.Line.TheVariants.{Put, PutNull, Copy, Convert, Unary, Not, Compute, Compare, Move, Distance, Address, Read, Write, Reload, Spill, Cut, Call, Serve}
 use Rattle.im_block.specs.declared.code.Exit.{Exit}
 use Rattle.im_block.specs.declared.code.Exit.TheVariants.{Jump, Turn, Branch, Return}
 use Rattle.im_block.specs.declared.code.Block.{Block}
@@ -107,8 +107,8 @@ no_uses n (Call to i first count) v h le = by (nat_lt v (first + count)) refl
     by : (t : Bool) → nat_lt v (first + count) ≡ t → (nat_le first v && nat_lt v (first + count)) ≡ false
     by true e = (let less = ltb-true v (first + count) e in absurd (omega (arith, less, h, le)))
     by false e = and_false (nat_le first v) (nat_lt v (first + count)) e
-no_uses n (GetChar to) v h le = refl
-no_uses n (PutChar to from) v h le = not_equal v from (λ e. omega arith)
+no_uses n (Serve to service None) v h le = refl
+no_uses n (Serve to service (Some from)) v h le = not_equal v from (λ e. omega arith)
 
 module _ (n count v : ℕ) (le : n ≤ v) (none : ℕ → ℕ → Bool) (no : (b : ℕ) → none b v ≡ false) where
   exit_none : (exit : Exit) → ExitWithin n exit → exit_lives none exit v ≡ false

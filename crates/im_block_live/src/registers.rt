@@ -70,13 +70,13 @@ fn uses_of(base: u64, line: Line) -> u32
         | Line::PutNull { .. }
         | Line::Reload { .. }
         | Line::Cut(_)
-        | Line::GetChar { .. } => 0,
+        | Line::Serve { from: None, .. } => 0,
         Line::Copy { from, .. }
         | Line::Convert { from, .. }
         | Line::Unary { from, .. }
         | Line::Not { from, .. }
         | Line::Spill { from, .. }
-        | Line::PutChar { from, .. } => single(base, from),
+        | Line::Serve { from: Some(from), .. } => single(base, from),
         Line::Compute { left, right, .. }
         | Line::Compare { left, right, .. }
         | Line::Distance { left, right, .. } => two(base, left, right),
@@ -106,8 +106,7 @@ fn sets_of(base: u64, line: Line) -> u32
         | Line::Read { to, .. }
         | Line::Reload { to, .. }
         | Line::Call { to, .. }
-        | Line::GetChar { to }
-        | Line::PutChar { to, .. } => single(base, to),
+        | Line::Serve { to, .. } => single(base, to),
         Line::Write { .. } | Line::Spill { .. } | Line::Cut(_) => 0,
     }
 }

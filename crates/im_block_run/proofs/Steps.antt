@@ -7,7 +7,7 @@ use Rattle.im_store.specs.declared.undefined.Undefined.TheVariants.{MissingResul
 use Rattle.im_store.specs.Checks.{Checked, Fine, Bad}
 use Rattle.im_store.specs.Objects as o
 use Rattle.im_block.specs.declared.code.Line.{Line}
-use Rattle.im_block.specs.declared.code.Line.TheVariants.{Put, PutNull, Copy, Convert, Unary, Not, Compute, Compare, Move, Distance, Address, Read, Write, Reload, Spill, Cut, Call, GetChar, PutChar}
+use Rattle.im_block.specs.declared.code.Line.TheVariants.{Put, PutNull, Copy, Convert, Unary, Not, Compute, Compare, Move, Distance, Address, Read, Write, Reload, Spill, Cut, Call, Serve}
 use Rattle.im_block.specs.declared.code.Block.{Block}
 use Rattle.im_block.specs.declared.unit.Function.{Function}
 use Rattle.im_block.specs.declared.unit.Unit.{Unit as Blocks}
@@ -76,10 +76,6 @@ takes-same (suc n) output f h e = e n
 
 -- a line is done the same once it was taken
 module _ (u : Blocks) (g : Setting) where
-  gets-same : (to : ℕ) (rest : List Line) (input : List ℕ) (fuel : ℕ) (s : m.State) → m.gets u g to rest input fuel (record s { frame = m.with_rest s.frame rest }) ≡ m.gets u g to rest input fuel s
-  gets-same to rest [] fuel s = refl
-  gets-same to rest (byte ∷ input) fuel s = refl
-
   pub does-same : (line : Line) (rest : List Line) (s : m.State) → m.does u g line rest (record s { frame = m.with_rest s.frame rest }) ≡ m.does u g line rest s
   does-same (Put to z) rest s = refl
   does-same (PutNull to) rest s = refl
@@ -98,9 +94,7 @@ module _ (u : Blocks) (g : Setting) where
   does-same (Spill slot from access) rest s = refl
   does-same (Cut cause) rest s = refl
   does-same (Call to i first count) rest s = refl
-  does-same (GetChar to) rest s =
-      takes-same s.fuel s.output (λ fuel. m.gets u g to rest s.input fuel (record s { frame = m.with_rest s.frame rest })) (λ fuel. m.gets u g to rest s.input fuel s) (λ fuel. gets-same to rest s.input fuel s)
-  does-same (PutChar to from) rest s = refl
+  does-same (Serve to service from) rest s = refl
 
 -- to the start of a block
 abbrev pub into_block : m.State → ℕ → ℕ → Option Block → Next

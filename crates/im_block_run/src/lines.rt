@@ -11,7 +11,7 @@ use crate::sets::{
 };
 use crate::state::State;
 use crate::stop::Stop;
-use crate::streams::{get_char, put_char};
+use crate::streams::serve;
 use im_block::{Line, Place};
 use im_eval_store::Value;
 use im_num::Kind;
@@ -113,9 +113,14 @@ pub(crate) fn perform<'u>(
             };
             call(alloc, code, state, target)
         }
-        Line::GetChar { to } => get_char(alloc, code.unit, state, to),
-        Line::PutChar { to, from } => {
-            put_char(alloc, code.unit, code.setting.capacity, state, to, from)
-        }
+        Line::Serve { to, service, from } => serve(
+            alloc,
+            code.unit,
+            code.setting.capacity,
+            state,
+            to,
+            service,
+            from,
+        ),
     }
 }

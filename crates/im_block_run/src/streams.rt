@@ -3,18 +3,21 @@ ghost use Rattle.im_num.specs.Kinds.{wrap};
 ghost use Rattle.im_num.specs.declared.kind.Kind.TheVariants.{U8};
 ghost use Rattle.im_store.specs.Objects as store;
 ghost use Rattle.im_block.specs.Meaning as meaning;
-ghost use Rattle.im_block_run.specs.Shown.{Follows, IsState};
+ghost use Rattle.im_serve.specs.Services.{byte_in, byte_out};
+ghost use Rattle.im_store.specs.Applied.{Applies};
+ghost use Rattle.im_block_run.specs.Shown.{Follows, IsFrame, IsState};
 
 use crate::calls::pay;
-use crate::state::State;
+use crate::state::{Frame, State};
 use crate::stop::Stop;
 use crate::values::number_of;
 use im_block::Unit;
 use im_eval_store::Value;
-use im_store::Number;
+use im_serve::Service;
+use im_store::{Number, Undefined};
 use std::alloc::Global;
 
-/// What `getchar` gives at the end of the input, and `putchar` where the output is full.
+/// What a service gives that can't do its work.
 const MINUS_ONE: Number = Number { value: -1 };
 
 /// A byte as a number.
@@ -32,8 +35,8 @@ fn byte_of(number: Number) -> u8
     number.value.rem_euclid(256) as u8
 }
 
-/// A built-in function has given a number.
-fn serve(alloc: Global, unit: &Unit, state: &mut State, to: u32, number: Number) -> Result<(), Stop>
+/// A service has given a number.
+fn give(alloc: Global, unit: &Unit, state: &mut State, to: u32, number: Number) -> Result<(), Stop>
     ensures { (g : meaning.Setting) (s : meaning.State) → IsState state.old s
         → Follows unit.now result state.new (meaning.served unit.now g to (store.Number number.value)
         s.frame.spot.rest s.input s.output s.fuel s) }
@@ -42,22 +45,21 @@ fn serve(alloc: Global, unit: &Unit, state: &mut State, to: u32, number: Number)
     Ok(state.frame.set(to, Value::Number(number))?)
 }
 
-/// The next byte of the input, or -1 at its end, for a unit of fuel (C11 7.21.7.6).
-pub(crate) fn get_char(alloc: Global, unit: &Unit, state: &mut State, to: u32) -> Result<(), Stop>
+/// The next byte of the input, or -1 at its end (C11 7.21.7.6).
+fn get(alloc: Global, unit: &Unit, state: &mut State, to: u32) -> Result<(), Stop>
     ensures { (g : meaning.Setting) (s : meaning.State) → IsState state.old s
-        → Follows unit.now result state.new (meaning.takes s.fuel s.output (λ fuel.
-        meaning.gets unit.now g to s.frame.spot.rest s.input fuel s)) }
+        → Follows unit.now result state.new
+        (meaning.replies unit.now g to (byte_in s.input s.output) s.frame.spot.rest s.fuel s) }
 {
-    pay(state)?;
     let Some((byte, rest)) = state.input.split_first() else {
-        return serve(alloc, unit, state, to, MINUS_ONE);
+        return give(alloc, unit, state, to, MINUS_ONE);
     };
     let number = byte_number(*byte);
     state.input = rest;
-    serve(alloc, unit, state, to, number)
+    give(alloc, unit, state, to, number)
 }
 
-/// A byte is appended to the output, where that has room, else -1 is given.
+/// A byte is appended to the output, where that has room, else -1 is given (C11 7.21.7.8).
 fn put(
     alloc: Global,
     unit: &Unit,
@@ -68,32 +70,64 @@ fn put(
 ) -> Result<(), Stop>
     ensures { (g : meaning.Setting) (s : meaning.State) → IsState state.old s
         → g.capacity ≡ capacity → Follows unit.now result state.new
-        (meaning.puts unit.now g to s.frame.spot.rest byte s.fuel s) }
+        (meaning.replies unit.now g to (byte_out g.capacity byte s.input s.output) s.frame.spot.rest
+        s.fuel s) }
 {
     if state.output.len() as u64 >= capacity as u64 {
-        return serve(alloc, unit, state, to, MINUS_ONE);
+        return give(alloc, unit, state, to, MINUS_ONE);
     }
     state.output.push(byte)?;
-    serve(alloc, unit, state, to, byte_number(byte))
+    give(alloc, unit, state, to, byte_number(byte))
 }
 
-/// Appends a byte to the output for a unit of fuel and gives it, or -1 where the output is full
-/// (C11 7.21.7.8).
-pub(crate) fn put_char(
+/// What a service is given: the number of a register, or 0 where it has no parameter.
+fn given(frame: &Frame, from: Option<u32>) -> Result<Number, Undefined>
+    ensures { (s : meaning.Frame) → IsFrame frame.now s
+        → Applies result (meaning.argument from s.registers) }
+{
+    match from {
+        None => Ok(Number::ZERO),
+        Some(from) => number_of(frame.register(from)),
+    }
+}
+
+/// The work of a service.
+fn work(
     alloc: Global,
     unit: &Unit,
     capacity: u32,
     state: &mut State,
     to: u32,
-    from: u32,
+    service: Service,
+    number: Number,
+) -> Result<(), Stop>
+    ensures { (g : meaning.Setting) (s : meaning.State) → IsState state.old s
+        → g.capacity ≡ capacity → Follows unit.now result state.new
+        (meaning.serves unit.now g to service number.value s.frame.spot.rest s.fuel s) }
+{
+    match service {
+        Service::Getchar => get(alloc, unit, state, to),
+        Service::Putchar => put(alloc, unit, capacity, state, to, byte_of(number)),
+    }
+}
+
+/// Calls a service for a unit of fuel, with the number of a register where it has a parameter.
+pub(crate) fn serve(
+    alloc: Global,
+    unit: &Unit,
+    capacity: u32,
+    state: &mut State,
+    to: u32,
+    service: Service,
+    from: Option<u32>,
 ) -> Result<(), Stop>
     ensures { (g : meaning.Setting) (s : meaning.State) → IsState state.old s
         → g.capacity ≡ capacity → Follows unit.now result state.new
         (meaning.takes s.fuel s.output (λ fuel.
-        meaning.on_checked (meaning.number_of (s.frame.registers from)) (λ z.
-        meaning.puts unit.now g to s.frame.spot.rest (nat_abs (wrap U8 z)) fuel s))) }
+        meaning.on_checked (meaning.argument from s.frame.registers) (λ z.
+        meaning.serves unit.now g to service z s.frame.spot.rest fuel s))) }
 {
     pay(state)?;
-    let number = number_of(state.frame.register(from))?;
-    put(alloc, unit, capacity, state, to, byte_of(number))
+    let number = given(&state.frame, from)?;
+    work(alloc, unit, capacity, state, to, service, number)
 }

@@ -1,3 +1,4 @@
 pub mod Over
 pub mod Once
 pub mod Functions
+pub mod Derived

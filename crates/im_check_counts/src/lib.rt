@@ -1,8 +1,10 @@
-//! From a unit to its counts that have a limit, and to the function that is over it.
+//! From a unit to its counts that have a limit, and to the function or the typedef name that is over it.
 #![tactic(auto)]
 
 mod crowded;
+mod derivations;
 mod parameters;
 
 pub use crowded::{Crowded, first_crowded};
+pub use derivations::{Deep, first_deep};
 pub use parameters::too_many_parameters;

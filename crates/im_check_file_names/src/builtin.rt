@@ -8,6 +8,7 @@ ghost use Rattle.im_types.specs.Shape.{type_of, types_in};
 use crate::names::same_name;
 use im_ctype::Integer;
 use im_num::NoMemory;
+use im_serve::Service;
 use im_types::{Type, function_of, same};
 use std::alloc::Global;
 
@@ -54,10 +55,10 @@ fn keeps_builtin(
     ensures { IfOk result (λ own. own
         ≡ f.keeps_builtin name.now constant (type_of ty.now) has_body) }
 {
-    if same_name(b"getchar", name) {
+    if same_name(Service::Getchar.name(), name) {
         return keeps_getchar(alloc, constant, ty, has_body);
     }
-    if same_name(b"putchar", name) {
+    if same_name(Service::Putchar.name(), name) {
         return keeps_putchar(alloc, constant, ty, has_body);
     }
     Ok(true)

@@ -14,6 +14,7 @@ use im_check_outline::{UnitOutline, is_typedef};
 use im_check_scopes::{Callee, Entity, Storage};
 use im_ctree::Specifier;
 use im_num::NoMemory;
+use im_serve::Service;
 use im_types::{Type, copy, is_function};
 use std::alloc::Global;
 
@@ -29,11 +30,11 @@ fn number_in(name: &[u8], names: &NameList) -> Result<u32, NoMemory>
 fn callee(outline: &UnitOutline, name: &[u8]) -> Result<Callee, NoMemory>
     ensures { IfOk result (λ k. callee_of k ≡ f.callee_named (outline_in outline.now) name.now) }
 {
-    if same_name(b"getchar", name) {
-        return Ok(Callee::Getchar);
+    if same_name(Service::Getchar.name(), name) {
+        return Ok(Callee::Service(Service::Getchar));
     }
-    if same_name(b"putchar", name) {
-        return Ok(Callee::Putchar);
+    if same_name(Service::Putchar.name(), name) {
+        return Ok(Callee::Service(Service::Putchar));
     }
     if !outline.bodies.contains(name) {
         return Ok(Callee::NoBody);

@@ -8,6 +8,7 @@ ghost use Rattle.im_check_file_place.specs.Predeclared.{with_function, predeclar
 use im_check_scopes::{Callee, Entity, Scope};
 use im_ctype::Integer;
 use im_num::NoMemory;
+use im_serve::Service;
 use im_types::{Type, function_of};
 use std::alloc::Global;
 
@@ -55,12 +56,18 @@ fn functions(alloc: Global) -> Result<Scope, NoMemory>
     one.push(Type::Integer(Integer::Int))?;
     let scope = with_character_function(
         alloc,
-        b"putchar",
-        Callee::Putchar,
+        Service::Putchar.name(),
+        Callee::Service(Service::Putchar),
         one,
         Scope::new(alloc),
     )?;
-    with_character_function(alloc, b"getchar", Callee::Getchar, Vec::new(alloc), scope)
+    with_character_function(
+        alloc,
+        Service::Getchar.name(),
+        Callee::Service(Service::Getchar),
+        Vec::new(alloc),
+        scope,
+    )
 }
 
 /// The scopes before the first declaration of a unit: the types that stand in for headers, `getchar`

@@ -1,15 +1,14 @@
 -- No size in declarators of a block is over the limit, where none in their parts is.
 use Rattle.std.proofs.Common.{ℕ, sym, subst}
 use Rattle.im_ctree.specs.Tree as t
-use Rattle.im_rules.specs.Breaks.{a_declarator, some_specifiers}
-use Rattle.im_rules.specs.BodyBreaks.{an_initialiser, some_locals, a_declaration, local_declarator, declared_specifiers, locals_behind, declared_locals}
-use Rattle.im_rules.specs.Context.{Context}
+use Rattle.im_rules.specs.Breaks.{a_declarator}
+use Rattle.im_rules.specs.BodyBreaks.{an_initialiser, some_locals, a_declaration, local_declarator, locals_behind, declared_locals}
 use Rattle.im_rules.specs.Declared as d
 use Rattle.im_rules.specs.Initialisers.{completed}
 use Rattle.im_rules.specs.Statements.{Site, in_context, with_local, behind_initializer}
 use Rattle.im_rules.specs.Typed.{Declares}
 use Rattle.im_rules.proofs.Once.{declares_once}
-use Rattle.im_check_initialisers.specs.im_rules_limits.Limits.{Counted, Sized, size_here, size_within, GivenSized, BodySized, of_local, size_in_part, size_in_inner, size_in_step, size_in_local_initialiser, IsWithin, IsBodyWithin}
+use Rattle.im_check_initialisers.specs.im_rules_limits.Limits.{Counted, GivenSized, BodySized, of_local, size_in_part, size_in_inner, size_in_step, size_in_local_initialiser, IsWithin, IsBodyWithin}
 use Rattle.im_check_sizes.specs.Sizes.{AllFit}
 use Rattle.im_check_initialisers.specs.Given.{IsInitialisationWithin}
 
@@ -34,13 +33,9 @@ local_within declares declarator fits given rest k (size_in_step part sized) = e
 local_within {s = s} {e = e} {i = t.an_initializer i} declares declarator fits given rest k (size_in_local_initialiser other sized) =
     given k (subst (λ (z : d.Declared). GivenSized (with_local e z (completed z.type (t.an_initializer i)) s).context (an_initialiser (completed z.type (t.an_initializer i)) 0 i) k) (sym (declares_once declares other)) sized)
 
-no_size : {c : Context} {x : t.Specifiers} {k : ℕ} → Sized c (some_specifiers x) k → ⊥
-no_size (size_here size) = elim size [ ]
-no_size (size_within part sized) = elim part [ ]
-
 pub declaration_within : {s : Site} {at : ℕ} {xs : t.SpecifierList} {ds : t.InitDeclarators}
-    → IsBodyWithin (in_context (d.behind_specifiers s.context xs) s) (some_locals (d.type_of_specifiers s.context xs) ds)
+    → IsBodyWithin (in_context (d.behind_tags s.context xs ds) s) (some_locals (d.type_of_specifiers s.context xs) ds)
     → IsBodyWithin s (a_declaration (t.declaration (t.specifiers at xs) ds))
 declaration_within locals k (size_in_part (declared_locals meets) sized) = locals k sized
-declaration_within locals k (size_in_inner declared_specifiers sized) = absurd (no_size sized)
+declaration_within locals k (size_in_inner part sized) = elim part [ ]
 declaration_within locals k (size_in_step part sized) = elim part [ ]

@@ -21,10 +21,7 @@ use Rattle.im_types.specs.Shape.{type_of}
 use Rattle.im_check_scopes.specs.declared.entity.Entry.{Entry}
 use Rattle.im_check_scopes.specs.Shape.{scopes_of}
 use Rattle.im_check_stop.specs.declared.stop.Stop.{Stop}
-use Rattle.im_check_type_specifiers.specs.declared.qualified.Qualified.{Qualified}
-use Rattle.im_check_type_specifiers.specs.Specified.{qualified_of}
 use Rattle.im_check_place.specs.declared.place.Place.{Place}
-use Rattle.im_check_place.specs.Contexts.{context_of}
 use Rattle.im_check_sites.specs.declared.body.Body.{Body}
 use Rattle.im_check_sites.specs.declared.position.Position.{Position}
 use Rattle.im_check_sites.specs.Sites.{site_of, IsDeclared, IsBodyFault}
@@ -95,10 +92,9 @@ pub record LocalsDone (q : d.Qualified) (before after : Body) (done done' : List
 abbrev pub AreLocalsFault : d.Qualified → Body → t.InitDeclarators → Stop → Type 0
 AreLocalsFault q before ds f = (w : Position) → IsBodyFault before w (some_locals q ds) f
 
--- the type of specifiers, and the scopes behind them
-pub record IsSpecified (before : Body) (xs : t.SpecifierList) (after : Body) (q : Qualified) : Type 0 where
-  pub meets : Meets (d.specifiers_ask (context_of before.place) xs)
-  pub type : qualified_of q ≡ d.type_of_specifiers (context_of before.place) xs
+-- all that is asked of specifiers is so, and these are the scopes behind them
+pub record IsSpecified (before after : Body) (asked : List Demand) (declared : Scopes) : Type 0 where
+  pub meets : Meets asked
   pub entries : List Entry
   pub behind : IsDeclared entries nothing_added before after
-  pub scopes : scopes_of after.place.scope ≡ (d.behind_specifiers (context_of before.place) xs).scopes
+  pub scopes : scopes_of after.place.scope ≡ declared

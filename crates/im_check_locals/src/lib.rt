@@ -6,6 +6,7 @@ mod asked;
 mod declarations;
 mod objects;
 mod read;
+mod tag;
 
 pub use declarations::declaration;
 pub use im_check_initialisers::expression;

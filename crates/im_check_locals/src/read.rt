@@ -1,10 +1,12 @@
 //! The parts of a declaration, with their string literals.
 ghost use Rattle.std.specs.Prelude.{◌≡◌, MatchResult};
+ghost use Rattle.im_ctree.specs.Tree as t;
 ghost use Rattle.im_ctree.specs.Shape.{declarator_of, maybe_initializer_of};
 ghost use Rattle.im_ctree.specs.declared.specifier.Specifiers.{out-Specifiers};
 ghost use Rattle.im_check_initialisers.specs.im_ctype.Table.{structs_of};
 ghost use Rattle.im_rules.specs.Breaks.{a_declarator};
 ghost use Rattle.im_rules.specs.Declared as d;
+ghost use Rattle.im_rules.specs.Rules.{named_in};
 ghost use Rattle.im_rules.specs.Statements.{just_strings, initialised_strings, MayInitialise};
 ghost use Rattle.im_rules.specs.Strings.{strings_of_declarator};
 ghost use Rattle.im_rules.specs.Typed.{Declares};
@@ -20,13 +22,15 @@ ghost use Rattle.im_check_place.specs.Contexts.{context_of};
 ghost use Rattle.im_check_sites.specs.Sites.{IsPast};
 ghost use Rattle.im_check_initialisers.specs.Given.{IsInitialisationFault, IsInitialisationWithin};
 ghost use Rattle.im_check_locals.specs.Objects.{IsSpecified};
+ghost use Rattle.im_check_locals.specs.Tags as tags;
 
+use crate::tag::LoneTag;
 use im_check_declarators::Declared;
 use im_check_initialisers::{declarator, initialisation};
 use im_check_sites::Body;
 use im_check_stop::Stop;
 use im_check_texts::{append_declarator, append_given_if_any};
-use im_check_type_specifiers::{Qualified, mention, specified_type};
+use im_check_type_specifiers::{Qualified, declare_alone, mention, specified_type};
 use im_ctree::{Declarator, Initializer, Specifiers};
 use im_typed::Stmt;
 use im_types::Type;
@@ -40,8 +44,11 @@ pub(crate) fn specified(
     body: &mut Body,
 ) -> Result<Qualified, Stop>
     ensures { let xs = list_from (out-Specifiers written.now).items.items in
-        MatchResult result (IsSpecified body.old xs body.new)
-        (IsRefusal (d.specifiers_ask (context_of body.old.place) xs) (out-Specifiers written.now).at) }
+        let c = context_of body.old.place in let asked = d.specifiers_ask c xs in
+        MatchResult result
+        (λ q. IsSpecified body.old body.new asked (d.tags_in c (named_in xs))
+        × (qualified_of q ≡ d.type_of_specifiers c xs))
+        (IsRefusal asked (out-Specifiers written.now).at) }
 {
     let q = specified_type(
         alloc,
@@ -57,6 +64,29 @@ pub(crate) fn specified(
         &written.items,
     )?;
     Ok(q)
+}
+
+/// A declaration `struct s;`, whose first token is that one: the tag is the innermost scope's.
+pub(crate) fn declared_alone(
+    alloc: Global,
+    at: u32,
+    lone: LoneTag<'_>,
+    body: &mut Body,
+) -> Result<(), Stop>
+    ensures { let xs = tags.lone lone.at lone.tag.now.items in let c = context_of body.old.place in
+        let asked = d.declaration_asks c xs t.no_init_declarators in
+        MatchResult result (λ u. IsSpecified body.old body.new asked
+        (d.tags_declared c xs t.no_init_declarators)) (IsRefusal asked at) }
+{
+    declare_alone(
+        alloc,
+        &mut body.place.scope,
+        &body.place.outline.lists,
+        at,
+        lone.at,
+        lone.tag,
+    )?;
+    Ok(())
 }
 
 /// What a declarator declares.

@@ -87,10 +87,12 @@ fn called(alloc: Global, ty: Type, callee: Callee, arguments: Vec<Expr>) -> Resu
 {
     match callee {
         Callee::Body(n) => Ok(call(ty, n, arguments)),
-        Callee::Getchar => Ok(of_variable(ty, Expr::Getchar)),
-        Callee::Putchar => {
+        Callee::Service(service) => {
+            if arguments.is_empty() {
+                return Ok(of_variable(ty, Expr::Serve(service, None)));
+            }
             let operand = Box::new(alloc, first_of(arguments))?;
-            Ok(of_variable(ty, Expr::Putchar(operand)))
+            Ok(of_variable(ty, Expr::Serve(service, Some(operand))))
         }
         Callee::NoBody => Ok(of_variable(ty, Expr::Null)),
     }
@@ -102,7 +104,7 @@ fn has_body(callee: Callee) -> bool
 {
     match callee {
         Callee::NoBody => false,
-        Callee::Body(_) | Callee::Getchar | Callee::Putchar => true,
+        Callee::Body(_) | Callee::Service(_) => true,
     }
 }
 

@@ -10,5 +10,5 @@ mod unit;
 mod walk;
 
 pub use declarator::{Neighbour, name_of, nearest};
-pub use specifier::{is_extern, is_typedef};
+pub use specifier::{is_extern, is_typedef, typedef_in};
 pub use unit::{UnitOutline, outline};

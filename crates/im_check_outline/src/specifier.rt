@@ -63,7 +63,7 @@ fn typedef_name(specifier: &Specifier) -> Option<&[u8]>
 }
 
 /// The first typedef name; empty where there is none.
-pub(crate) fn typedef_in(specifiers: &[Specifier]) -> &[u8]
+pub fn typedef_in(specifiers: &[Specifier]) -> &[u8]
     ensures { result.now ≡ o.typedef_in (list_from specifiers.now) }
 {
     for specifier in specifiers {

@@ -2,7 +2,7 @@
 use Rattle.std.proofs.Common.{◌≡◌, ℕ, ◌<◌, Bool, true, false, List, map, length, get_or, is_none, is_some, not, Option, Some, None, refl, sym, ap, subst, ◌∙◌, arith}
 use Rattle.std.proofs.lemmas.List.{get_or-map, length-map}
 use Rattle.im_check_name_map.specs.im_word.Words.{Name}
-use Rattle.im_check_name_map.specs.im_rules.Scopes.{meaning, meaning_here, tag_meaning, at_file_scope}
+use Rattle.im_check_name_map.specs.im_rules.Scopes.{meaning, meaning_here, tag_meaning, tag_meaning_here, at_file_scope}
 use Rattle.im_check_name_map.specs.Numbers.{number_of}
 use Rattle.im_check_scopes.specs.declared.entity.Entry.{Entry}
 use Rattle.im_check_scopes.specs.declared.scope.Kept.{Kept}
@@ -10,7 +10,7 @@ use Rattle.im_check_scopes.specs.Shape.{scopes_of}
 use Rattle.im_check_scopes.specs.Search.{is_opening, is_named, is_tagged, last_place, entity_named, tag_named, is_before}
 use Rattle.im_check_scopes.specs.Indexed.{entries_of, IsIndexed}
 use Rattle.im_check_scopes.proofs.Search.{last-within}
-use Rattle.im_check_scopes.proofs.Meaning.{meaning-none, meaning-some, tag-none, tag-some, file-told, here-none, here-outside, here-some}
+use Rattle.im_check_scopes.proofs.Meaning.{meaning-none, meaning-some, tag-none, tag-some, file-told, here-none, here-outside, here-some, tag-here-none, tag-here-outside, tag-here-some}
 
 abbrev entry_in : Kept → Entry
 entry_in k = k.entry
@@ -49,6 +49,16 @@ module _ (ks : List Kept) (names tags : List (Name × Option ℕ)) (inner : Opti
 
   pub here-absent : number_of names x ≡ None → meaning_here (scopes_of (entries_of ks)) x ≡ None
   here-absent e = here-none (entries_of ks) x (sym (h.names x) ∙ e)
+
+  pub tag-here-found : (i : ℕ) (k : Kept) → number_of tags x ≡ Some i → is_before i inner ≡ false → k ≡ get_or ks i k → tag_meaning_here (scopes_of (entries_of ks)) x ≡ tag_named k.entry
+  tag-here-found i k e inside is =
+      tag-here-some (entries_of ks) x i k.entry (sym (h.tags x) ∙ e) (ap (is_before i) (sym h.innermost) ∙ inside) ∙ ap tag_named (entry-at ks i k (tag-within i e) is)
+
+  pub tag-here-hidden : (i : ℕ) → number_of tags x ≡ Some i → is_before i inner ≡ true → tag_meaning_here (scopes_of (entries_of ks)) x ≡ None
+  tag-here-hidden i e outside = tag-here-outside (entries_of ks) x i (sym (h.tags x) ∙ e) (ap (is_before i) (sym h.innermost) ∙ outside)
+
+  pub tag-here-absent : number_of tags x ≡ None → tag_meaning_here (scopes_of (entries_of ks)) x ≡ None
+  tag-here-absent e = tag-here-none (entries_of ks) x (sym (h.tags x) ∙ e)
 
 pub at-file : (ks : List Kept) (names tags : List (Name × Option ℕ)) (inner : Option ℕ) → IsIndexed ks names tags inner → is_none inner ≡ at_file_scope (scopes_of (entries_of ks))
 at-file ks names tags inner h = ap is_none h.innermost ∙ file-told (entries_of ks)

@@ -3,7 +3,7 @@ use Rattle.std.proofs.Common.{◌≡◌, ℕ, Bool, true, false, ◌||◌, List,
 use Rattle.im_check_name_map.specs.im_word.Words.{Name}
 use Rattle.im_check_name_map.specs.im_rules.TypeTests.{same_name}
 use Rattle.im_check_name_map.specs.im_rules.Scopes as s
-use Rattle.im_check_name_map.specs.im_rules.Scopes.{Scopes, nothing, meaning, meaning_here, tag_meaning, at_file_scope}
+use Rattle.im_check_name_map.specs.im_rules.Scopes.{Scopes, nothing, meaning, meaning_here, tag_meaning, tag_meaning_here, at_file_scope}
 use Rattle.im_check_scopes.specs.declared.entity.Entry.{Entry}
 use Rattle.im_check_scopes.specs.declared.entity.Entry.TheVariants as n
 use Rattle.im_check_scopes.specs.Shape.{with_entry, with_entries, scopes_of}
@@ -30,6 +30,11 @@ here-step x g n.Opened = refl
 here-step x g (n.Named z e) = refl
 here-step x g (n.Tagged z t) = refl
 
+tag-here-step : (x : Name) (g : Scopes) (y : Entry) → tag_meaning_here (with_entry g y) x ≡ (if is_opening y || is_tagged x y then tag_named y else tag_meaning_here g x)
+tag-here-step x g n.Opened = refl
+tag-here-step x g (n.Named z e) = refl
+tag-here-step x g (n.Tagged z t) = refl
+
 pub meaning-none : (es : List Entry) (x : Name) → last_place (is_named x) es ≡ None → meaning (scopes_of es) x ≡ None
 meaning-none es x h = searched-none (λ g. meaning g x) (is_named x) entity_named (meaning-step x) nothing es h
 
@@ -49,43 +54,67 @@ file-told es = by (last_place is_opening es) refl
     by None h = sym (searched-none at_file_scope is_opening (λ y. false) file-step nothing es h)
     by (Some i) h = sym (searched-some at_file_scope is_opening (λ y. false) file-step nothing es i n.Opened h)
 
-abbrev in_scope : Name → Entry → Bool
-in_scope x y = is_opening y || is_named x y
-
 opening-unnamed : (y : Entry) → is_opening y ≡ true → entity_named y ≡ None
 opening-unnamed n.Opened h = refl
 opening-unnamed (n.Named z e) h = absurd cc
 opening-unnamed (n.Tagged z t) h = absurd cc
 
--- at the place of the last entry that opens a scope nothing is named
-at-opening : (es : List Entry) (x : Name) (j : ℕ) → last_place is_opening es ≡ Some j → last_place (in_scope x) es ≡ Some j → meaning_here (scopes_of es) x ≡ None
-at-opening es x j o h =
-    searched-some (λ g. meaning_here g x) (in_scope x) entity_named (here-step x) nothing es j n.Opened h
-    ∙ opening-unnamed (get_or es j n.Opened) (last-passes is_opening es j n.Opened o)
+opening-untagged : (y : Entry) → is_opening y ≡ true → tag_named y ≡ None
+opening-untagged n.Opened h = refl
+opening-untagged (n.Named z e) h = absurd cc
+opening-untagged (n.Tagged z t) h = absurd cc
 
-either : (es : List Entry) (x : Name) → last_place (in_scope x) es ≡ later (last_place (is_named x) es) (last_place is_opening es)
-either es x = last-either (is_named x) is_opening es
+-- in the innermost scope alone: what the last entry says that passes the test, where none that opens a scope stands behind it
+module _ {T : Type 0} (seen : Scopes → Option T) (test : Entry → Bool) (told : Entry → Option T) (step : (g : Scopes) (y : Entry) → seen (with_entry g y) ≡ (if is_opening y || test y then told y else seen g)) (none : seen nothing ≡ None) (silent : (y : Entry) → is_opening y ≡ true → told y ≡ None) where
+  abbrev in_scope : Entry → Bool
+  in_scope y = is_opening y || test y
+
+  -- at the place of the last entry that opens a scope nothing is told
+  at-opening : (es : List Entry) (j : ℕ) → last_place is_opening es ≡ Some j → last_place in_scope es ≡ Some j → seen (scopes_of es) ≡ None
+  at-opening es j o h =
+      searched-some seen in_scope told step nothing es j n.Opened h
+      ∙ silent (get_or es j n.Opened) (last-passes is_opening es j n.Opened o)
+
+  either : (es : List Entry) → last_place in_scope es ≡ later (last_place test es) (last_place is_opening es)
+  either es = last-either test is_opening es
+
+  innermost-none : (es : List Entry) → last_place test es ≡ None → seen (scopes_of es) ≡ None
+  innermost-none es h = by (last_place is_opening es) refl
+    where
+      by : (r : Option ℕ) → last_place is_opening es ≡ r → seen (scopes_of es) ≡ None
+      by None o = searched-none seen in_scope told step nothing es (either es ∙ ap (λ a. later a (last_place is_opening es)) h ∙ o) ∙ none
+      by (Some j) o = at-opening es j o (either es ∙ ap (λ a. later a (last_place is_opening es)) h ∙ o)
+
+  innermost-outside : (es : List Entry) (i : ℕ) → last_place test es ≡ Some i → is_before i (last_place is_opening es) ≡ true → seen (scopes_of es) ≡ None
+  innermost-outside es i h b = by (last_place is_opening es) refl b
+    where
+      by : (r : Option ℕ) → last_place is_opening es ≡ r → is_before i r ≡ true → seen (scopes_of es) ≡ None
+      by None o k = absurd cc
+      by (Some j) o k =
+          at-opening es j o (either es ∙ ap (λ a. later a (last_place is_opening es)) h ∙ ap (λ a. later (Some i) a) o ∙ ap (λ c. if c then Some j else Some i) k)
+
+  innermost-some : (es : List Entry) (i : ℕ) (d : Entry) → last_place test es ≡ Some i → is_before i (last_place is_opening es) ≡ false → seen (scopes_of es) ≡ told (get_or es i d)
+  innermost-some es i d h b =
+      searched-some seen in_scope told step nothing es i d (either es ∙ ap (λ a. later a (last_place is_opening es)) h ∙ by (last_place is_opening es) b)
+    where
+      by : (r : Option ℕ) → is_before i r ≡ false → later (Some i) r ≡ Some i
+      by None k = refl
+      by (Some j) k = ap (λ c. if c then Some j else Some i) k
 
 pub here-none : (es : List Entry) (x : Name) → last_place (is_named x) es ≡ None → meaning_here (scopes_of es) x ≡ None
-here-none es x h = by (last_place is_opening es) refl
-  where
-    by : (r : Option ℕ) → last_place is_opening es ≡ r → meaning_here (scopes_of es) x ≡ None
-    by None o =
-        searched-none (λ g. meaning_here g x) (in_scope x) entity_named (here-step x) nothing es (either es x ∙ ap (λ a. later a (last_place is_opening es)) h ∙ o)
-    by (Some j) o = at-opening es x j o (either es x ∙ ap (λ a. later a (last_place is_opening es)) h ∙ o)
+here-none es x h = innermost-none (λ g. meaning_here g x) (is_named x) entity_named (here-step x) refl opening-unnamed es h
 
 pub here-outside : (es : List Entry) (x : Name) (i : ℕ) → last_place (is_named x) es ≡ Some i → is_before i (last_place is_opening es) ≡ true → meaning_here (scopes_of es) x ≡ None
-here-outside es x i h b = by (last_place is_opening es) refl b
-  where
-    by : (r : Option ℕ) → last_place is_opening es ≡ r → is_before i r ≡ true → meaning_here (scopes_of es) x ≡ None
-    by None o k = absurd cc
-    by (Some j) o k =
-        at-opening es x j o (either es x ∙ ap (λ a. later a (last_place is_opening es)) h ∙ ap (λ a. later (Some i) a) o ∙ ap (λ c. if c then Some j else Some i) k)
+here-outside es x i h b = innermost-outside (λ g. meaning_here g x) (is_named x) entity_named (here-step x) refl opening-unnamed es i h b
 
 pub here-some : (es : List Entry) (x : Name) (i : ℕ) (d : Entry) → last_place (is_named x) es ≡ Some i → is_before i (last_place is_opening es) ≡ false → meaning_here (scopes_of es) x ≡ entity_named (get_or es i d)
-here-some es x i d h b =
-    searched-some (λ g. meaning_here g x) (in_scope x) entity_named (here-step x) nothing es i d (either es x ∙ ap (λ a. later a (last_place is_opening es)) h ∙ by (last_place is_opening es) b)
-  where
-    by : (r : Option ℕ) → is_before i r ≡ false → later (Some i) r ≡ Some i
-    by None k = refl
-    by (Some j) k = ap (λ c. if c then Some j else Some i) k
+here-some es x i d h b = innermost-some (λ g. meaning_here g x) (is_named x) entity_named (here-step x) refl opening-unnamed es i d h b
+
+pub tag-here-none : (es : List Entry) (x : Name) → last_place (is_tagged x) es ≡ None → tag_meaning_here (scopes_of es) x ≡ None
+tag-here-none es x h = innermost-none (λ g. tag_meaning_here g x) (is_tagged x) tag_named (tag-here-step x) refl opening-untagged es h
+
+pub tag-here-outside : (es : List Entry) (x : Name) (i : ℕ) → last_place (is_tagged x) es ≡ Some i → is_before i (last_place is_opening es) ≡ true → tag_meaning_here (scopes_of es) x ≡ None
+tag-here-outside es x i h b = innermost-outside (λ g. tag_meaning_here g x) (is_tagged x) tag_named (tag-here-step x) refl opening-untagged es i h b
+
+pub tag-here-some : (es : List Entry) (x : Name) (i : ℕ) (d : Entry) → last_place (is_tagged x) es ≡ Some i → is_before i (last_place is_opening es) ≡ false → tag_meaning_here (scopes_of es) x ≡ tag_named (get_or es i d)
+tag-here-some es x i d h b = innermost-some (λ g. tag_meaning_here g x) (is_tagged x) tag_named (tag-here-step x) refl opening-untagged es i d h b

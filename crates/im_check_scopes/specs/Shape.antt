@@ -20,8 +20,7 @@ storage_of (o.Local n) = s.local_object n
 abbrev pub callee_of : Callee → s.Callee
 callee_of (k.Body n) = s.a_body n
 callee_of k.NoBody = s.no_body
-callee_of k.Getchar = s.get_character
-callee_of k.Putchar = s.put_character
+callee_of (k.Service service) = s.a_service service
 
 abbrev pub entity_of : Entity → s.Entity
 entity_of (e.Object constant ty storage) = s.an_object constant (type_of ty) (storage_of storage)

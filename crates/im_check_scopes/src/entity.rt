@@ -1,3 +1,4 @@
+use im_serve::Service;
 use im_store::Number;
 use im_types::Type;
 
@@ -16,8 +17,7 @@ pub enum Callee {
     /// A function of the unit, by its number.
     Body(u32),
     NoBody,
-    Getchar,
-    Putchar,
+    Service(Service),
 }
 
 /// What an ordinary name means (C11 6.2.1).

@@ -38,6 +38,17 @@ impl Scope {
         tag_in(&self.kept[place].entry)
     }
 
+    /// What a tag means in the innermost scope alone.
+    pub fn tag_meaning_here(&self, tag: &[u8]) -> Option<Tag>
+        ensures { option_map tag_of result ≡ s.tag_meaning_here (scopes_of self.now) tag.now }
+    {
+        let place = self.tags.number(tag)?;
+        if is_outside(place, self.innermost) {
+            return None;
+        }
+        tag_in(&self.kept[place].entry)
+    }
+
     /// Whether no scope is opened but that of the file.
     pub fn at_file_scope(&self) -> bool
         ensures { result ≡ s.at_file_scope (scopes_of self.now) }

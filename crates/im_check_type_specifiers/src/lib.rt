@@ -10,5 +10,5 @@ mod words;
 pub use line::{Counts, Line, WordType, line_of};
 pub use qualified::Qualified;
 pub use specified::{specified_type, type_at_file};
-pub use tags::{mention, tag_number};
+pub use tags::{declare_alone, mention, tag_number};
 pub use words::{has_const, storage_count};

@@ -2,9 +2,9 @@
 use Rattle.std.specs.Prelude.{ℕ, ◌==◌, List, [], ◌∷◌, ◌++◌, codes, decimal, if◌then◌else◌}
 use Rattle.im_fault.specs.Texts.{limit_of, quantity_name}
 use Rattle.im_fault.specs.declared.fault.LineFault.{LineFault}
-use Rattle.im_fault.specs.declared.fault.LineFault.TheVariants.{BadByte, OpenComment, OpenLiteral, BadEscape, BadNumber, BadDirective, Syntax, Nesting, Rule}
+use Rattle.im_fault.specs.declared.fault.LineFault.TheVariants.{BadByte, OpenComment, OpenLiteral, BadEscape, BadNumber, BadDirective, Syntax, Nesting, Links, Rule}
 use Rattle.im_fault.specs.declared.fault.Quantity.{Quantity}
-use Rattle.im_fault.specs.declared.fault.Quantity.TheVariants.{Source, Parameters, Size, Statics, Frame, Code}
+use Rattle.im_fault.specs.declared.fault.Quantity.TheVariants.{Source, Parameters, Size, Statics, Frame, Code, Derivations}
 
 -- what the typing rule of a number asks for
 abbrev pub rule_sentence : ℕ → List ℕ
@@ -74,6 +74,7 @@ fault_text BadNumber token = told (codes "bad number") [] token (codes "it is no
 fault_text BadDirective token = told (codes "bad directive") [] token (codes "only line markers begin with #")
 fault_text Syntax token = told (codes "syntax") [] token (syntax_sentence token)
 fault_text Nesting token = told (codes "nesting over 200") [] token (codes "more than 200 stand in one another")
+fault_text Links token = told (codes "links over 512") [] token (codes "more than 512 parentheses, brackets and commas stand in a row")
 fault_text (Rule number) token = told (codes "rule ") (decimal number) token (rule_sentence number)
 
 -- what a limit asks for
@@ -84,6 +85,7 @@ limit_sentence Size = codes "a type has at most 1048576 bytes"
 limit_sentence Statics = codes "all statics have at most 1048576 bytes"
 limit_sentence Frame = codes "a function's locals and temporary values have at most 65536 bytes"
 limit_sentence Code = codes "all code has at most 1044480 bytes"
+limit_sentence Derivations = codes "a typedef name stands for at most 250 pointers, arrays and functions"
 
 -- so much of the quantity, over its limit, and what stands behind that
 abbrev pub over_text : Quantity → ℕ → List ℕ → List ℕ

@@ -24,6 +24,7 @@ fn name_of(quantity: Quantity) -> &'static str
         Quantity::Statics => "statics",
         Quantity::Frame => "frame",
         Quantity::Code => "code",
+        Quantity::Derivations => "derivations",
     }
 }
 
@@ -37,6 +38,7 @@ fn most_of(quantity: Quantity) -> u64
         Quantity::Size | Quantity::Statics => 1048576,
         Quantity::Frame => 65536,
         Quantity::Code => 1044480,
+        Quantity::Derivations => 250,
     }
 }
 

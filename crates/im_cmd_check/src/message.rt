@@ -135,6 +135,13 @@ fn send_why<S: Sink>(sink: &mut S, why: LineFault, token: &[u8]) -> Result<(), F
             token,
             b"more than 200 stand in one another",
         ),
+        LineFault::Links => send_told(
+            sink,
+            b"links over 512",
+            b"",
+            token,
+            b"more than 512 parentheses, brackets and commas stand in a row",
+        ),
         LineFault::Rule(number) => send_rule(sink, number, token),
     }
 }

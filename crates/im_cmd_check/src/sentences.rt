@@ -89,5 +89,7 @@ pub fn limit_sentence(quantity: Quantity) -> &'static [u8]
         Quantity::Statics => b"all statics have at most 1048576 bytes",
         Quantity::Frame => b"a function's locals and temporary values have at most 65536 bytes",
         Quantity::Code => b"all code has at most 1044480 bytes",
+        Quantity::Derivations =>
+            b"a typedef name stands for at most 250 pointers, arrays and functions",
     }
 }

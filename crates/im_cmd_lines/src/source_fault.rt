@@ -77,6 +77,7 @@ fn send_line_fault<S: Sink>(
         LineFault::BadDirective => send_in_line(sink, name, place.line, b"bad directive"),
         LineFault::Syntax => send_in_line(sink, name, place.line, b"syntax"),
         LineFault::Nesting => send_in_line(sink, name, place.line, b"nesting over 200"),
+        LineFault::Links => send_in_line(sink, name, place.line, b"links over 512"),
         LineFault::Rule(number) => send_numbered_in_line(sink, name, place.line, b"rule ", number),
     }
 }
@@ -91,10 +92,11 @@ fn name_of(quantity: Quantity) -> &'static str
         Quantity::Statics => "statics",
         Quantity::Frame => "frame",
         Quantity::Code => "code",
+        Quantity::Derivations => "derivations",
     }
 }
 
-// The most that there may be: parameters of a function, bytes of the others.
+// The most that there may be: parameters of a function, derivations of a type, bytes of the others.
 fn most_of(quantity: Quantity) -> u64
     ensures { result ≡ limit_of quantity }
 {
@@ -104,6 +106,7 @@ fn most_of(quantity: Quantity) -> u64
         Quantity::Size | Quantity::Statics => 1048576,
         Quantity::Frame => 65536,
         Quantity::Code => 1044480,
+        Quantity::Derivations => 250,
     }
 }
 

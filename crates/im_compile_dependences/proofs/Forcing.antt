@@ -4,7 +4,7 @@ use Rattle.std.specs.Prelude.{if◌then◌else◌, ◌==◌}
 use Rattle.im_num.specs.declared.values.Cause.{Cause}
 use Rattle.im_num.specs.declared.values.Cause.TheVariants.{Entry, Loop}
 use Rattle.im_block.specs.declared.code.Line.{Line}
-use Rattle.im_block.specs.declared.code.Line.TheVariants.{Put, PutNull, Copy, Convert, Unary, Not, Compute, Compare, Move, Distance, Address, Read, Write, Reload, Spill, Cut, Call, GetChar, PutChar}
+use Rattle.im_block.specs.declared.code.Line.TheVariants.{Put, PutNull, Copy, Convert, Unary, Not, Compute, Compare, Move, Distance, Address, Read, Write, Reload, Spill, Cut, Call, Serve}
 use Rattle.im_block.specs.declared.code.Exit.{Exit}
 use Rattle.im_block.specs.declared.code.Exit.TheVariants.{Jump, Turn, Branch, Return}
 use Rattle.im_block.specs.declared.code.Block.{Block}
@@ -37,8 +37,8 @@ due_plain (Reload to slot access) = tt
 due_plain (Spill slot from access) = tt
 due_plain (Cut cause) = tt
 due_plain (Call to function first count) = λ accesses. tt
-due_plain (GetChar to) = λ accesses. tt
-due_plain (PutChar to from) = λ accesses. tt
+due_plain (Serve to service None) = λ accesses. tt
+due_plain (Serve to service (Some from)) = λ accesses. tt
 
 first_plain : (b : Bool) → Plain (if b then Some Entry else None)
 first_plain true = λ accesses. tt

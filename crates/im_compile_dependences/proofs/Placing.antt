@@ -6,7 +6,7 @@ use Rattle.im_num.specs.declared.values.Cause.TheVariants.{Return as ReturnCut}
 use Rattle.im_block.specs.declared.code.Place.{Place}
 use Rattle.im_block.specs.declared.code.Place.TheVariants.{Static, Local, Through}
 use Rattle.im_block.specs.declared.code.Line.{Line}
-use Rattle.im_block.specs.declared.code.Line.TheVariants.{Put, PutNull, Copy, Convert, Unary, Not, Compute, Compare, Move, Distance, Address, Read, Write, Reload, Spill, Cut, Call, GetChar, PutChar}
+use Rattle.im_block.specs.declared.code.Line.TheVariants.{Put, PutNull, Copy, Convert, Unary, Not, Compute, Compare, Move, Distance, Address, Read, Write, Reload, Spill, Cut, Call, Serve}
 use Rattle.im_block.specs.declared.code.Exit.{Exit}
 use Rattle.im_block.specs.declared.code.Exit.TheVariants.{Jump, Turn, Branch, Return}
 use Rattle.im_block.specs.declared.code.Block.{Block}
@@ -146,11 +146,11 @@ module _ (h : ℕ → Home) (n : ℕ) (old rest : List Line) (c : Carries old re
       let new : List Line = Call 10 function 10 count ∷ Cut ReturnCut ∷ give (h to) (n + 2) rest in
       carry (Call to function first count ∷ old) new (bring h 10 first count (n + 3) new) (bring_before h 10 first count (n + 3) new new (nothing_before new))
       (called to (Call to function first count) (Call 10 function 10 count) refl refl)
-  put_carries (GetChar to) after v = called to (GetChar to) (GetChar 10) refl refl
-  put_carries (PutChar to from) after v =
-      let new : List Line = PutChar 10 10 ∷ Cut ReturnCut ∷ give (h to) (n + 2) rest in
-      carry (PutChar to from ∷ old) new (into (h from) 10 n new) (into_before (h from) 10 n new new (nothing_before new))
-      (called to (PutChar to from) (PutChar 10 10) refl refl)
+  put_carries (Serve to service None) after v = called to (Serve to service None) (Serve 10 service None) refl refl
+  put_carries (Serve to service (Some from)) after v =
+      let new : List Line = Serve 10 service (Some 10) ∷ Cut ReturnCut ∷ give (h to) (n + 2) rest in
+      carry (Serve to service (Some from) ∷ old) new (into (h from) 10 n new) (into_before (h from) 10 n new new (nothing_before new))
+      (called to (Serve to service (Some from)) (Serve 10 service (Some 10)) refl refl)
 
 -- the lines of a block, put with all that is needed of them, and without a cut that came with a call before them
 record CarriesBoth (h : ℕ → Home) (exit : Exit) (lines tail : List Line) : Type 0 where
@@ -160,8 +160,8 @@ record CarriesBoth (h : ℕ → Home) (exit : Exit) (lines tail : List Line) : T
 module _ (h : ℕ → Home) (live : ℕ → ℕ → Bool) (exit : Exit) (tail : List Line) where
   behind_carries : (line : Line) (lines : List Line) (n : ℕ) → CarriesBoth h exit lines tail → Carries lines (put_lines h n (behind exit line (needed exit lines)) tail)
   behind_carries (Call to function first count) lines n c = c.past n
-  behind_carries (GetChar to) lines n c = c.past n
-  behind_carries (PutChar to from) lines n c = c.past n
+  behind_carries (Serve to service None) lines n c = c.past n
+  behind_carries (Serve to service (Some from)) lines n c = c.past n
   behind_carries line lines n c = c.all n
 
   loop_carries : (on : Exit) (cause : Cause) (lines : List Line) (n : ℕ) → CarriesBoth h exit lines tail → Carries (Cut cause ∷ lines) (put_lines h n (Cut cause ∷ needed exit lines) tail) → Carries (Cut cause ∷ lines) (put_lines h n (loop_cut on cause (needed exit lines)) tail)

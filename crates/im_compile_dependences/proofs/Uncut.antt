@@ -5,7 +5,7 @@ use Rattle.std.proofs.lemmas.List.Elements.{All-head, All-tail}
 use Rattle.im_num.specs.declared.values.Cause.{Cause}
 use Rattle.im_num.specs.declared.values.Cause.TheVariants.{Dep}
 use Rattle.im_block.specs.declared.code.Line.{Line}
-use Rattle.im_block.specs.declared.code.Line.TheVariants.{Put, PutNull, Copy, Convert, Unary, Not, Compute, Compare, Move, Distance, Address, Read, Write, Reload, Spill, Cut, Call, GetChar, PutChar}
+use Rattle.im_block.specs.declared.code.Line.TheVariants.{Put, PutNull, Copy, Convert, Unary, Not, Compute, Compare, Move, Distance, Address, Read, Write, Reload, Spill, Cut, Call, Serve}
 use Rattle.im_block.specs.declared.code.Block.{Block}
 use Rattle.im_alloc_placed.specs.Apart.{IsNoCut}
 use Rattle.im_select.specs.Selects.{causes_of_line, causes_of_lines, causes_of_blocks}
@@ -29,8 +29,8 @@ no_cause (Reload to slot access) h = refl
 no_cause (Spill slot from access) h = refl
 no_cause (Cut cause) h = absurd (h tt)
 no_cause (Call to function first count) h = refl
-no_cause (GetChar to) h = refl
-no_cause (PutChar to from) h = refl
+no_cause (Serve to service None) h = refl
+no_cause (Serve to service (Some from)) h = refl
 
 no_causes : (lines : List Line) → All IsNoCut lines → causes_of_lines lines ≡ []
 no_causes [] h = refl

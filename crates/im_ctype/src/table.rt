@@ -99,7 +99,7 @@ impl TypeTable {
     }
 
     /// The extent of a struct; nothing where it has no member list.
-    fn struct_extent(&self, number: u32) -> Extent
+    pub(crate) fn struct_extent(&self, number: u32) -> Extent
         ensures { result ≡ extent_of (layout_at (layouts (structs_of self.now)) number) }
     {
         match self.structs.get(number as usize) {

@@ -6,6 +6,7 @@ use Rattle.im_block.specs.declared.access.Dep.{Dep}
 use Rattle.im_block.specs.declared.code.Exit.{Exit}
 use Rattle.im_block.specs.declared.code.Exit.TheVariants.{Jump, Turn, Branch, Return}
 use Rattle.im_block.specs.declared.code.Block.{Block}
+use Rattle.im_block.specs.Forced.{CutAtTurn}
 use Rattle.im_block.specs.Sections.{Has}
 use Rattle.im_dep.specs.declared.spans.Span.{Span}
 use Rattle.im_dep.specs.Sites.{site_of_access}
@@ -13,6 +14,10 @@ use Rattle.im_dep.specs.Spans.{covers_by, is_covered, holds_span}
 use Rattle.im_cut.specs.declared.marks.Marks.{Marks as Known}
 use Rattle.im_cut.specs.Sweep.{Marks, SweepLines}
 use Rattle.im_cut.specs.Stands.{HasAlike, Stands}
+
+-- no loop edge but behind a cut
+abbrev pub AreCutAtTurns : List Block → Type 0
+AreCutAtTurns blocks = (b : ℕ) (block : Block) → slice_get blocks b ≡ Some block → CutAtTurn block.exit block.lines.items
 
 -- marks from two places, and marks from a place that leads here or doesn't
 abbrev pub joined : Marks → Marks → Marks

@@ -4,6 +4,7 @@ use Rattle.im_block.specs.declared.access.Access.{Access}
 use Rattle.im_block.specs.declared.access.Tags.{Tags}
 use Rattle.im_block.specs.Meaning.{Site}
 use Rattle.im_block.specs.Sections.{Has}
+use Rattle.im_block.specs.Paths.{MeetAt}
 use Rattle.im_block.specs.Tagged.{reach_of}
 use Rattle.im_block.specs.Flow.{same_site}
 use Rattle.im_dep.specs.Sites.{site_of_access}
@@ -33,8 +34,21 @@ writes_at tags w m = record { clean = λ r. if covers_by tags w r then false els
 abbrev pub reads_at : Site → Marks → Marks
 reads_at a m = record { clean = m.clean; opened = λ r. if same_site a r && m.clean r then true else m.opened r }
 
+abbrev pub Writes : Tags → Access → Known → Known → Type 0
+Writes tags a old new = (m : Marks) → Stands tags old m → Stands tags new (writes_at tags (site_of_access a) m)
+
+abbrev pub Reads : Tags → Access → Known → Known → Type 0
+Reads tags a old new = (m : Marks) → Stands tags old m → Stands tags new (reads_at (site_of_access a) m)
+
 abbrev pub touched : Tags → Access → Marks → Marks
 touched tags a m = if a.write then writes_at tags (site_of_access a) m else reads_at (site_of_access a) m
 
 abbrev pub Touches : Tags → Access → Known → Known → Type 0
 Touches tags a old new = (m : Marks) → Stands tags old m → Stands tags new (touched tags a m)
+
+-- one of these reads, which a write may meet; none of them is one
+abbrev pub IsMet : Tags → List Access → (write read : Access) → Type 0
+IsMet tags reads write read = Has reads read × MeetAt tags (site_of_access write) (site_of_access read)
+
+abbrev pub NoneIsMet : Tags → List Access → (write : Access) → Type 0
+NoneIsMet tags reads write = (read : Access) → Has reads read → MeetAt tags (site_of_access write) (site_of_access read) → ⊥

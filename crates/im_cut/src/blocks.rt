@@ -1,9 +1,7 @@
-ghost use Rattle.std.specs.Prelude.{◌≡◌, ◌<◌, ℕ, IfOk, OnOk, length, slice_get, Some};
-ghost use Rattle.im_block.specs.declared.code.Block.{Block};
+ghost use Rattle.std.specs.Prelude.{◌≡◌, ◌<◌, IfOk, OnOk, length};
 ghost use Rattle.im_block.specs.Shape.{IsOrdered};
-ghost use Rattle.im_block.specs.Forced.{CutAtTurn};
 ghost use Rattle.im_cut.specs.Greedy.{CutsTo};
-ghost use Rattle.im_cut.specs.Blocks.{SweepsBlock};
+ghost use Rattle.im_cut.specs.Blocks.{AreCutAtTurns, SweepsBlock};
 
 use crate::joins::hand_on;
 use crate::lines::sweep_lines;
@@ -15,15 +13,15 @@ use im_num::NoMemory;
 use std::alloc::Global;
 use std::mem;
 
-/// The function with a cut directly before each write that may meet a read which is exposed on a path to it, and the dependences
-/// for which they stand, in the order in which they were found.
+/// The function with a cut directly before each write that may meet a read which is exposed on a
+/// path to it, and the dependences for which they stand, in the order in which they were found.
 pub fn cut(
     alloc: Global,
     mut function: Function,
     tags: &Tags,
 ) -> Result<(Function, Vec<Dep>), NoMemory>
     requires ordered { IsOrdered function.blocks.items }
-    requires turns { (b : ℕ) (block : Block) → slice_get function.blocks.items b ≡ Some block → CutAtTurn block.exit block.lines.items }
+    requires turns { AreCutAtTurns function.blocks.items }
     ensures { IfOk result (λ r. CutsTo tags.now function r.0 r.1.items) }
 {
     let deps = cut_in(alloc, &mut function, tags)?;
@@ -33,7 +31,7 @@ pub fn cut(
 /// The same in place.
 pub fn cut_in(alloc: Global, function: &mut Function, tags: &Tags) -> Result<Vec<Dep>, NoMemory>
     requires ordered { IsOrdered function.old.blocks.items }
-    requires turns { (b : ℕ) (block : Block) → slice_get function.old.blocks.items b ≡ Some block → CutAtTurn block.exit block.lines.items }
+    requires turns { AreCutAtTurns function.old.blocks.items }
     ensures { IfOk result (λ deps. CutsTo tags.now function.old function.new deps.items) }
 {
     covers_law();
@@ -62,7 +60,8 @@ fn sweep_block(
     deps: &mut Vec<Dep>,
 ) -> Result<(), NoMemory>
     requires { number < length table.old.items }
-    ensures sweeps { OnOk result (SweepsBlock tags.now number block.old block.new table.old.items table.new.items deps.old.items deps.new.items) }
+    ensures sweeps { OnOk result (SweepsBlock tags.now number block.old block.new table.old.items
+        table.new.items deps.old.items deps.new.items) }
     ensures len { OnOk result (length table.new.items ≡ length table.old.items) }
 {
     let mut marks = mem::replace(&mut table[number], nothing(alloc));

@@ -6,7 +6,8 @@ ghost use Rattle.im_dep.specs.declared.spans.Span.{Span};
 ghost use Rattle.im_dep.specs.Sites.{site_of_access};
 ghost use Rattle.im_dep.specs.Spans.{is_covered, holds_span, span_holds};
 ghost use Rattle.im_cut.specs.Stands.{HasAlike};
-ghost use Rattle.im_cut.specs.Blocks.{Joins, JoinsAt, HandsOn, IsRange, AreCommon, SharesWith, AddsShared, AddsExposed, JoinsWritten};
+ghost use Rattle.im_cut.specs.Blocks.{Joins, JoinsAt, HandsOn, IsRange, AreCommon, SharesWith};
+ghost use Rattle.im_cut.specs.Blocks.{AddsShared, AddsExposed, JoinsWritten};
 
 use crate::marks::{Marks, alike, has_alike};
 use im_block::{Access, Exit, Tags};
@@ -14,7 +15,8 @@ use im_dep::{Span, is_written};
 use im_num::NoMemory;
 use std::alloc::Global;
 
-/// The marks at a block's end are joined with those at the starts of the blocks that it leads to. Behind a loop edge a section begins.
+/// The marks at a block's end are joined with those at the starts of the blocks that it leads to.
+/// Behind a loop edge a section begins.
 pub(crate) fn hand_on(
     alloc: Global,
     table: &mut Vec<Marks>,
@@ -61,7 +63,8 @@ fn join_at(
     Ok(())
 }
 
-/// What is written on all paths and open on some, of those to one place and of those to another that lead on to it.
+/// What is written on all paths and open on some, of those to one place and of those to another
+/// that lead on to it.
 fn join(alloc: Global, into: &mut Marks, from: &Marks, tags: &Tags) -> Result<(), NoMemory>
     ensures { OnOk result (Joins tags.now into.old from.now into.new) }
 {

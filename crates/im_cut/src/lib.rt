@@ -1,4 +1,5 @@
-//! From code with its forced cuts to code with a cut directly before each write that may meet an exposed read.
+//! From code with its forced cuts to code with a cut directly before each write that may meet an
+//! exposed read.
 #![tactic(auto)]
 
 mod blocks;

@@ -1,13 +1,15 @@
 ghost use Rattle.std.specs.Prelude.{◌≡◌, IfOk, OnOk, Some, None};
 ghost use Rattle.im_num.specs.Kinds.{kind_size};
-ghost use Rattle.im_cut.specs.Lines.{access_of, is_cut, PassesLine, IsDueAt, IsDueFor, SweepsLine, SweepsLines};
+ghost use Rattle.im_cut.specs.Lines.{access_of, is_cut, PassesLine, IsDueAt, IsDueFor};
+ghost use Rattle.im_cut.specs.Lines.{SweepsLine, SweepsLines};
 
 use crate::marks::{Marks, first_met, restart, touch};
 use im_block::{Access, Dep, Line, Tags};
 use im_num::{Cause, Kind, NoMemory};
 use std::alloc::Global;
 
-/// The lines of a block with the cuts that are due, whose dependences are added; the marks go from their start to their end.
+/// The lines of a block with the cuts that are due, whose dependences are added; the marks go from
+/// their start to their end.
 pub(crate) fn sweep_lines(
     alloc: Global,
     lines: &[Line],
@@ -15,7 +17,8 @@ pub(crate) fn sweep_lines(
     tags: &Tags,
     deps: &mut Vec<Dep>,
 ) -> Result<Vec<Line>, NoMemory>
-    ensures { IfOk result (λ cut. SweepsLines tags.now marks.old marks.new lines.now cut.items deps.old.items deps.new.items) }
+    ensures { IfOk result (λ cut. SweepsLines tags.now marks.old marks.new lines.now cut.items
+        deps.old.items deps.new.items) }
 {
     let mut cut = Vec::new(alloc);
     for line in lines {
@@ -32,7 +35,8 @@ fn sweep_line(
     tags: &Tags,
     deps: &mut Vec<Dep>,
 ) -> Result<(), NoMemory>
-    ensures { OnOk result (SweepsLine tags.now marks.old marks.new line.now cut.old.items cut.new.items deps.old.items deps.new.items) }
+    ensures { OnOk result (SweepsLine tags.now marks.old marks.new line.now cut.old.items
+        cut.new.items deps.old.items deps.new.items) }
 {
     match due(&marks.exposed, line, tags) {
         Some(dep) => {
@@ -117,7 +121,8 @@ fn access_at(line: &Line) -> Option<Access>
 }
 
 fn plain(number: u64, write: bool, kind: Kind) -> Access
-    ensures { result ≡ record { number = number; write = write; size = kind_size kind; slot = None } }
+    ensures { result
+        ≡ record { number = number; write = write; size = kind_size kind; slot = None } }
 {
     Access {
         number,

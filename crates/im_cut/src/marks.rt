@@ -1,18 +1,17 @@
 ghost use Rattle.std.specs.Prelude.{◌≡◌, IsTrue, OnOk, true, false, MatchOption, []};
-ghost use Rattle.im_block.specs.Sections.{Has};
-ghost use Rattle.im_block.specs.Paths.{MeetAt};
 ghost use Rattle.im_block.specs.Tagged.{tag_of};
-ghost use Rattle.im_block.specs.declared.access.Access.{Access};
 ghost use Rattle.im_dep.specs.Sites.{site_of_access};
-ghost use Rattle.im_cut.specs.Sweep.{fresh, Marks as Sweep};
-ghost use Rattle.im_cut.specs.Stands.{IsAlike, Stands, HasAlike, Touches, writes_at, reads_at};
+ghost use Rattle.im_cut.specs.Sweep.{fresh};
+ghost use Rattle.im_cut.specs.Stands.{IsAlike, IsMet, NoneIsMet, Stands, HasAlike};
+ghost use Rattle.im_cut.specs.Stands.{Touches, Writes, Reads};
 
 use im_block::{Access, Tags};
 use im_dep::{Span, direct_span, is_written, meets, write_span};
 use im_num::NoMemory;
 use std::alloc::Global;
 
-/// What a sweep knows at a place of a function, of the paths that come there from where their sections begin.
+/// What a sweep knows at a place of a function, of the paths that come there from where their
+/// sections begin.
 #[derive(Drop)]
 pub(crate) struct Marks {
     /// Whether there is such a path.
@@ -59,7 +58,7 @@ pub(crate) fn touch(marks: &mut Marks, access: &Access, tags: &Tags) -> Result<(
 
 /// A direct write adds its bytes.
 fn write(marks: &mut Marks, access: &Access, tags: &Tags) -> Result<(), NoMemory>
-    ensures { OnOk result ((m : Sweep) → Stands tags.now marks.old m → Stands tags.now marks.new (writes_at tags.now (site_of_access access.now) m)) }
+    ensures { OnOk result (Writes tags.now access.now marks.old marks.new) }
 {
     write_span(&mut marks.written, direct_span(tags, access))?;
     Ok(())
@@ -67,7 +66,7 @@ fn write(marks: &mut Marks, access: &Access, tags: &Tags) -> Result<(), NoMemory
 
 /// A read is open unless its bytes were written. Of reads that have one place and size, one serves.
 fn read(marks: &mut Marks, access: &Access, tags: &Tags) -> Result<(), NoMemory>
-    ensures { OnOk result ((m : Sweep) → Stands tags.now marks.old m → Stands tags.now marks.new (reads_at (site_of_access access.now) m)) }
+    ensures { OnOk result (Reads tags.now access.now marks.old marks.new) }
 {
     if !marks.reached {
         return Ok(());
@@ -82,8 +81,8 @@ fn read(marks: &mut Marks, access: &Access, tags: &Tags) -> Result<(), NoMemory>
     Ok(())
 }
 
-/// How many of the last reads are looked at for one of the same place and size. A read that is there twice does no harm, and in a
-/// long section a longer look would cost more than it spares.
+/// How many of the last reads are looked at for one of the same place and size. A read that is
+/// there twice does no harm, and in a long section a longer look would cost more than it spares.
 const RECENT: usize = 64;
 
 /// Whether one of the last reads has the place and size of this one.
@@ -130,7 +129,8 @@ fn share_tag(tags: &Tags, one: u64, other: u64) -> bool
 
 /// A read among these that the write may meet.
 pub(crate) fn first_met(reads: &[Access], write: &Access, tags: &Tags) -> Option<Access>
-    ensures { MatchOption result ((r : Access) → Has reads.now r → MeetAt tags.now (site_of_access write.now) (site_of_access r) → ⊥) (λ r. Has reads.now r × MeetAt tags.now (site_of_access write.now) (site_of_access r)) }
+    ensures { MatchOption result (NoneIsMet tags.now reads.now write.now)
+        (λ read. IsMet tags.now reads.now write.now read) }
 {
     for read in reads {
         if meets(tags, write, read) {

@@ -7,10 +7,11 @@ use im_block::{Block, Exit, Function};
 use im_num::NoMemory;
 use std::alloc::Global;
 
-/// For each block the marks at its start, as far as they are known before the sweep: a section begins at the entry, and behind each
-/// loop edge.
+/// For each block the marks at its start, as far as they are known before the sweep: a section
+/// begins at the entry, and behind each loop edge.
 pub(crate) fn start_table(alloc: Global, function: &Function) -> Result<Vec<Marks>, NoMemory>
-    ensures starts { IfOk result (λ table. AreStarts function.now.entry function.now.blocks.items table.items) }
+    ensures starts { IfOk result
+        (λ table. AreStarts function.now.entry function.now.blocks.items table.items) }
     ensures len { IfOk result (λ table. length table.items ≡ length function.now.blocks.items) }
 {
     let mut table = blank_table(alloc, function.blocks.len())?;

@@ -85,7 +85,7 @@ fn line_cost(line: &Line) -> u32
         Line::Unary { kind, .. } => 2 + narrowing_words(kind),
         Line::Compute { kind, .. } => 2 + narrowing_words(kind),
         Line::Put { .. } | Line::Convert { .. } | Line::Compare { .. } => 3,
-        Line::Call { .. } | Line::GetChar { .. } | Line::PutChar { .. } => 3,
+        Line::Call { .. } | Line::Serve { .. } => 3,
         Line::Address { .. } | Line::Read { .. } | Line::Write { .. } => 4,
         Line::Reload { .. } | Line::Spill { .. } => 4,
         Line::Move { .. } | Line::Distance { .. } => 5,

@@ -1,10 +1,10 @@
 -- Refusals of the driver's steps are refusals of the source.
 use Rattle.std.proofs.Common.{◌≡◌, ℕ, List, Option, Err, refl}
 use Rattle.im_fault.specs.declared.fault.LineFault.{LineFault}
-use Rattle.im_fault.specs.declared.fault.LineFault.TheVariants.{BadByte, OpenComment, OpenLiteral, BadEscape, BadNumber, BadDirective, Syntax, Nesting, Rule}
+use Rattle.im_fault.specs.declared.fault.LineFault.TheVariants.{BadByte, OpenComment, OpenLiteral, BadEscape, BadNumber, BadDirective, Syntax, Nesting, Links, Rule}
 use Rattle.im_fault.specs.declared.fault.Place.{Place}
 use Rattle.im_fault.specs.declared.fault.Quantity.{Quantity}
-use Rattle.im_fault.specs.declared.fault.Quantity.TheVariants.{Source, Parameters, Size, Statics, Frame, Code}
+use Rattle.im_fault.specs.declared.fault.Quantity.TheVariants.{Source, Parameters, Size, Statics, Frame, Code, Derivations}
 use Rattle.im_fault.specs.declared.fault.SourceFault.{SourceFault}
 use Rattle.im_fault.specs.declared.fault.SourceFault.TheVariants.{Line, Limit, OutOfMemory}
 use Rattle.im_front.specs.Reading.{IsRead, IsWrong, token_spans}
@@ -33,6 +33,7 @@ line_refused source place BadNumber h = h
 line_refused source place BadDirective h = h
 line_refused source place Syntax h = h
 line_refused source place Nesting h = h
+line_refused source place Links h = h
 line_refused source place (Rule number) h = absurd h
 
 pub read_refused : (source : List ℕ) (fault : SourceFault) → IsRead source (Err fault) → IsRefused source fault
@@ -43,6 +44,7 @@ read_refused source (Limit Size count) h = absurd h
 read_refused source (Limit Statics count) h = absurd h
 read_refused source (Limit Frame count) h = absurd h
 read_refused source (Limit Code count) h = absurd h
+read_refused source (Limit Derivations count) h = absurd h
 read_refused source OutOfMemory h = tt
 
 pub check_refused : (source : List ℕ) (tokens : List Token) (tree : Tree) (fault : CheckFault) → IsTreeOf source tokens tree → IsCheckFault (tree_of tree) fault → IsRefused source (fault_at source (token_spans tokens) fault)

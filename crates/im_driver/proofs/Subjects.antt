@@ -2,7 +2,7 @@
 use Rattle.std.proofs.Common.{◌≡◌, ◌<◌, ℕ, zero, suc, List, [], ◌∷◌, length, map, Option, Some, Err, refl, sym, ap, ◌∙◌, subst, arith}
 use Rattle.std.specs.Prelude.{option_map, slice_get}
 use Rattle.std.proofs.lemmas.Option.{slice_get-map}
-use Rattle.im_fault.specs.declared.fault.Quantity.TheVariants.{Source, Parameters, Size, Statics, Frame, Code}
+use Rattle.im_fault.specs.declared.fault.Quantity.TheVariants.{Source, Parameters, Size, Statics, Frame, Code, Derivations}
 use Rattle.im_fault.specs.declared.fault.SourceFault.{SourceFault}
 use Rattle.im_fault.specs.declared.fault.SourceFault.TheVariants.{Line, Limit, OutOfMemory}
 use Rattle.im_fault.specs.declared.fault.Subject.{Subject}
@@ -27,7 +27,7 @@ use Rattle.im_keeps_built.specs.Laws.{IsLargeFrame, RefusedLaw}
 use Rattle.im_driver.specs.declared.refused.Refused.{Refused}
 use Rattle.im_driver.specs.Compiled.{IsTreeOf, IsRefused}
 use Rattle.im_driver.specs.Refused.{IsCountedOf, IsRefusedFor, IsSubject}
-use Rattle.im_driver.specs.Steps.{HasCrowded, IsFrameTold, IsReady, as_whole, counted_of, fault_at, of_compile, refused_at}
+use Rattle.im_driver.specs.Steps.{HasCrowded, IsDeepTold, IsFrameTold, IsReady, IsTooDeep, as_whole, counted_of, fault_at, of_compile, refused_at}
 use Rattle.im_driver.proofs.Refusals.{read_refused, check_refused, made_refused}
 
 read_subject : (source : List ℕ) (fault : SourceFault) → IsRead source (Err fault) → IsSubject source fault Whole
@@ -38,6 +38,7 @@ read_subject source (Limit Size count) h = absurd h
 read_subject source (Limit Statics count) h = absurd h
 read_subject source (Limit Frame count) h = absurd h
 read_subject source (Limit Code count) h = absurd h
+read_subject source (Limit Derivations count) h = absurd h
 read_subject source OutOfMemory h = refl
 
 pub read_refused_for : (source : List ℕ) (fault : SourceFault) → IsRead source (Err fault) → IsRefusedFor source (as_whole fault)
@@ -66,6 +67,31 @@ module _ (source : List ℕ) (tokens : List Token) (tree : Tree) (is_tree : IsTr
 
   pub check_refused_for : (fault : CheckFault) (crowded : Subject) → IsCheckFault (tree_of tree) fault → HasCrowded source (token_spans tokens) (tree_of tree) crowded → IsRefusedFor source (refused_at source (token_spans tokens) fault crowded)
   check_refused_for fault crowded h has = record { is_fault = check_refused source tokens tree fault is_tree h; is_subject = check_subject fault crowded h has }
+
+  -- typedef names
+
+  deep_told : (fault : SourceFault) (subject : Subject) → IsDeepTold source (token_spans tokens) (tree_of tree) fault subject → IsRefused source fault × IsSubject source fault subject
+  deep_told (Line place why) subject told = absurd told
+  deep_told (Limit Source count) subject told = absurd told
+  deep_told (Limit Parameters count) subject told = absurd told
+  deep_told (Limit Size count) subject told = absurd told
+  deep_told (Limit Statics count) subject told = absurd told
+  deep_told (Limit Frame count) subject told = absurd told
+  deep_told (Limit Code count) subject told = absurd told
+  deep_told (Limit Derivations count) Whole told = absurd told
+  deep_told (Limit Derivations count) (Named name) told = absurd told
+  deep_told (Limit Derivations count) (Declared place name) told = (
+    record { tokens = tokens; tree = tree; is_tree = is_tree; name = told.0; first = told.1; is_count = told.2 },
+    record { tokens = tokens; tree = tree; is_tree = is_tree; derived = told.0; first = told.1; is_count = told.2; is_name = told.3; is_place = told.4 },
+  )
+  deep_told OutOfMemory Whole told = (tt, refl)
+  deep_told OutOfMemory (Named name) told = absurd told
+  deep_told OutOfMemory (Declared place name) told = absurd told
+
+  pub deep_refused_for : (refused : Refused) → IsTooDeep source (token_spans tokens) (tree_of tree) refused → IsRefusedFor source refused
+  deep_refused_for refused told =
+      let both = deep_told refused.fault refused.subject told in
+      record { is_fault = both.0; is_subject = both.1 }
 
 -- frames
 
@@ -96,6 +122,7 @@ module _ (law : RefusedLaw) (made : Prog) (max_gap : Option ℕ) (is_source : Is
   frame_told function bytes f (Limit Size count) subject h at told source r = absurd told
   frame_told function bytes f (Limit Statics count) subject h at told source r = absurd told
   frame_told function bytes f (Limit Code count) subject h at told source r = absurd told
+  frame_told function bytes f (Limit Derivations count) subject h at told source r = absurd told
   frame_told function bytes f (Limit Frame count) Whole h at told source r = absurd told
   frame_told function bytes f (Limit Frame count) (Declared place name) h at told source r = absurd told
   frame_told function bytes f (Limit Frame count) (Named name) h at told source r =

@@ -52,10 +52,10 @@ module _ (source : List ℕ) (small : AreSmall source) (law : WordsLaw) where
       )
 
   pub is_written : (tokens : List Token) (tree : Tree) → SpeltLaw → All (IsTokenOf source) tokens → IsParsedText source tokens (Ok tree) → IsWrittenUnit (tree_of tree)
-  is_written tokens tree spelt all parsed = spelt (tree_of tree) parsed.0 parsed.2.1 (are_lexical tokens parsed.0 all parsed.1)
+  is_written tokens tree spelt all parsed = spelt (tree_of tree) parsed.0 parsed.2.2 (are_lexical tokens parsed.0 all parsed.1)
 
   pub well_typed : (tokens : List Token) (tree : Tree) (g : Prog) → SourcesLaw → All (IsTokenOf source) tokens → IsParsedText source tokens (Ok tree) → TypedUnit (tree_of tree) g → IsWithinLimits (tree_of tree) → IsWellTyped g × typed.IsWithinLimits g
-  well_typed tokens tree g sources all parsed typed within = sources (tree_of tree) parsed.0 g parsed.2.1 (are_lexical tokens parsed.0 all parsed.1) typed within
+  well_typed tokens tree g sources all parsed typed within = sources (tree_of tree) parsed.0 g parsed.2.2 (are_lexical tokens parsed.0 all parsed.1) typed within
 
   -- the names among the words, and those of statics
   module _ (names : WordNamesLaw) (few : length source < 2 ^ 32) where
@@ -77,4 +77,4 @@ module _ (source : List ℕ) (small : AreSmall source) (law : WordsLaw) where
 
     pub namable : (tokens : List Token) (tree : Tree) (g : Prog) → NamableLaw → All (IsTokenOf source) tokens → IsParsedText source tokens (Ok tree) → TypedUnit (tree_of tree) g → IsWithinLimits (tree_of tree) → Each IsNamable g.statics
     namable tokens tree g statics all parsed typed within =
-        statics (tree_of tree) parsed.0 g parsed.2.1 (are_lexical tokens parsed.0 all parsed.1) (are_named tokens parsed.0 all parsed.1) typed within
+        statics (tree_of tree) parsed.0 g parsed.2.2 (are_lexical tokens parsed.0 all parsed.1) (are_named tokens parsed.0 all parsed.1) typed within

@@ -4,7 +4,7 @@ use Rattle.im_fault.specs.declared.fault.LineFault.{LineFault}
 use Rattle.im_fault.specs.declared.fault.LineFault.TheVariants.{BadByte, OpenComment, OpenLiteral, BadEscape, BadNumber, BadDirective, Syntax, Nesting, Rule}
 use Rattle.im_fault.specs.declared.fault.Place.{Place}
 use Rattle.im_fault.specs.declared.fault.Quantity.{Quantity}
-use Rattle.im_fault.specs.declared.fault.Quantity.TheVariants.{Source, Parameters, Size, Statics, Frame, Code}
+use Rattle.im_fault.specs.declared.fault.Quantity.TheVariants.{Source, Parameters, Size, Statics, Frame, Code, Derivations}
 use Rattle.im_fault.specs.declared.fault.SourceFault.{SourceFault}
 use Rattle.im_fault.specs.declared.fault.SourceFault.TheVariants.{Line, Limit, OutOfMemory}
 use Rattle.im_num.specs.Variables.{Variable}
@@ -24,6 +24,7 @@ use Rattle.im_check.specs.im_rules.TypedUnit.{TypedUnit}
 use Rattle.im_check.specs.im_rules.UnitBreaks.{UnitBroken}
 use Rattle.im_check.specs.im_rules_limits.Limits as limits
 use Rattle.im_check.specs.Checked.{HasNoLargeType}
+use Rattle.im_check_counts.specs.Derivations.{Derived, derived_names, IsFirstDeep}
 use Rattle.im_compile.specs.declared.options.Options.{Options}
 use Rattle.im_compile.specs.declared.built.Built.{Built}
 use Rattle.im_compile.specs.Passed.{IsSource}
@@ -119,6 +120,15 @@ pub record IsExceededByStatics (source : List ℕ) (count : ℕ) : Type 0 where
   pub exceeds : limits.Exceeds (tree_of tree) limits.of_statics count
   pub sizes : HasNoLargeType (tree_of tree)
 
+-- a typedef name of the source's tree is the first that stands for more than 250 derivations, and for so many
+pub record IsDeepRefused (source : List ℕ) (count : ℕ) : Type 0 where
+  pub tokens : List Token
+  pub tree : Tree
+  pub is_tree : IsTreeOf source tokens tree
+  pub name : Derived
+  pub first : IsFirstDeep (derived_names (tree_of tree)) name
+  pub is_count : count ≡ name.count
+
 -- a function of the source's program has a frame of so many bytes: more than 65536, and no more than it may need
 pub record IsFrameRefused (source : List ℕ) (count : ℕ) : Type 0 where
   pub prog : Prog
@@ -143,6 +153,7 @@ IsLimitRefused source Size count = IsExceeded source limits.of_size count
 IsLimitRefused source Statics count = IsExceededByStatics source count
 IsLimitRefused source Frame count = IsFrameRefused source count
 IsLimitRefused source Code count = IsCodeRefused source count
+IsLimitRefused source Derivations count = IsDeepRefused source count
 
 -- why a source isn't compiled
 abbrev pub IsRefused : List ℕ → SourceFault → Type 0

@@ -2,7 +2,7 @@
 use Rattle.std.specs.Prelude.{◌≡◌, ℕ, List}
 use Rattle.im_fault.specs.declared.fault.Place.{Place}
 use Rattle.im_fault.specs.declared.fault.Quantity.{Quantity}
-use Rattle.im_fault.specs.declared.fault.Quantity.TheVariants.{Parameters, Size, Frame}
+use Rattle.im_fault.specs.declared.fault.Quantity.TheVariants.{Parameters, Size, Frame, Derivations}
 use Rattle.im_fault.specs.declared.fault.SourceFault.{SourceFault}
 use Rattle.im_fault.specs.declared.fault.SourceFault.TheVariants.{Limit}
 use Rattle.im_fault.specs.declared.fault.Subject.{Subject}
@@ -14,6 +14,7 @@ use Rattle.im_front.specs.Reading.{place_of_token}
 use Rattle.im_typed.specs.Program.{Prog}
 use Rattle.im_check.specs.Checked.{IsFirstLarge}
 use Rattle.im_check_counts.specs.Crowded.{IsFirstCrowded, file_declarators}
+use Rattle.im_check_counts.specs.Derivations.{Derived, derived_names, IsFirstDeep}
 use Rattle.im_keeps_built.specs.Laws.{IsLargeFrame}
 use Rattle.im_driver.specs.declared.refused.Refused.{Refused}
 use Rattle.im_driver.specs.Compiled.{IsTreeOf, IsProgramOf, IsRefused}
@@ -45,7 +46,19 @@ pub record IsLargeFunction (source : List ℕ) (count : ℕ) (name : List ℕ) :
   pub large : IsLargeFrame prog function count
   pub is_name : name ≡ large.f.name
 
--- parameters are those of one function, and so is a frame; a size is that of a type in one declaration; the others are of no
+-- the source's first typedef name that stands for too many derivations is this one, and stands for so many; its declarator
+-- begins at the place
+pub record IsDeepName (source : List ℕ) (count : ℕ) (place : Place) (name : List ℕ) : Type 0 where
+  pub tokens : List Token
+  pub tree : Tree
+  pub is_tree : IsTreeOf source tokens tree
+  pub derived : Derived
+  pub first : IsFirstDeep (derived_names (tree_of tree)) derived
+  pub is_count : count ≡ derived.count
+  pub is_name : name ≡ derived.name
+  pub is_place : place ≡ place_of_token source tokens derived.token
+
+-- parameters are those of one function, and so is a frame; derivations are those of one typedef name; a size is that of a type in one declaration; the others are of no
 -- one function or object
 abbrev pub IsCountedOf : List ℕ → Quantity → ℕ → Subject → Type 0
 IsCountedOf source Parameters count (Declared place name) = IsCrowdedFunction source count place name.items
@@ -57,6 +70,9 @@ IsCountedOf source Size count (Named name) = ⊥
 IsCountedOf source Frame count (Named name) = IsLargeFunction source count name.items
 IsCountedOf source Frame count Whole = ⊥
 IsCountedOf source Frame count (Declared place name) = ⊥
+IsCountedOf source Derivations count (Declared place name) = IsDeepName source count place name.items
+IsCountedOf source Derivations count Whole = ⊥
+IsCountedOf source Derivations count (Named name) = ⊥
 IsCountedOf source quantity count subject = subject ≡ Whole
 
 abbrev pub IsSubject : List ℕ → SourceFault → Subject → Type 0

@@ -2,7 +2,7 @@
 use Rattle.std.specs.Prelude.{◌≡◌, ℕ, ◌<◌, ◌≤◌, List, All, length, slice_index}
 use Rattle.im_fault.specs.declared.fault.LineFault.TheVariants.{Rule}
 use Rattle.im_fault.specs.declared.fault.Quantity.{Quantity}
-use Rattle.im_fault.specs.declared.fault.Quantity.TheVariants.{Source, Parameters, Size, Statics, Frame, Code}
+use Rattle.im_fault.specs.declared.fault.Quantity.TheVariants.{Source, Parameters, Size, Statics, Frame, Code, Derivations}
 use Rattle.im_fault.specs.declared.fault.SourceFault.{SourceFault}
 use Rattle.im_fault.specs.declared.fault.SourceFault.TheVariants.{Line, Limit, OutOfMemory}
 use Rattle.im_fault.specs.declared.fault.Subject.{Subject}
@@ -15,6 +15,7 @@ use Rattle.im_check.specs.declared.fault.Limit as k
 use Rattle.im_check.specs.declared.fault.Limit.TheVariants as which
 use Rattle.im_check.specs.im_rules_limits.Limits as limits
 use Rattle.im_check_counts.specs.Crowded.{IsFirstCrowded, file_declarators}
+use Rattle.im_check_counts.specs.Derivations.{Derived, derived_names, IsFirstDeep}
 use Rattle.im_compile.specs.declared.fault.CompileFault.{CompileFault}
 use Rattle.im_compile.specs.declared.fault.CompileFault.TheVariants as compile
 use Rattle.im_tok.specs.declared.token.Token.{Token}
@@ -91,6 +92,16 @@ IsCrowdedSubject source spans u count subject = ⊥
 abbrev pub HasCrowded : List ℕ → List (ℕ × ℕ) → t.Tree → Subject → Type 0
 HasCrowded source spans u subject =
     (count : ℕ) → limits.IsFirstOver (limits.parameter_counts u) count → IsCrowdedSubject source spans u count subject
+
+-- the first typedef name of a unit that stands for too many derivations is told, or memory ran out
+abbrev pub IsDeepTold : List ℕ → List (ℕ × ℕ) → t.Tree → SourceFault → Subject → Type 0
+IsDeepTold source spans u (Limit Derivations count) (Declared place name) =
+    (x : Derived) × IsFirstDeep (derived_names u) x × (count ≡ x.count) × (name.items ≡ x.name) × (place ≡ place_among source spans x.token)
+IsDeepTold source spans u OutOfMemory Whole = Unit {0}
+IsDeepTold source spans u fault subject = ⊥
+
+abbrev pub IsTooDeep : List ℕ → List (ℕ × ℕ) → t.Tree → Refused → Type 0
+IsTooDeep source spans u refused = IsDeepTold source spans u refused.fault refused.subject
 
 abbrev pub of_compile : CompileFault → SourceFault
 of_compile (compile.Frame function bytes) = Limit Frame bytes

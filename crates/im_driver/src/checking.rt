@@ -1,12 +1,14 @@
 ghost use Rattle.std.specs.Prelude.{◌≡◌, ◌<◌, ◌^◌, length, ℕ, List, IfOk, MatchResult};
+ghost use Rattle.im_ctree.specs.Tree as t;
 ghost use Rattle.im_ctree.specs.Shape.{tree_of};
 ghost use Rattle.im_driver.specs.Refused.{IsRefusedFor};
-ghost use Rattle.im_driver.specs.Steps.{HasCrowded, IsReady, refused_at};
+ghost use Rattle.im_check_counts.specs.Derivations.{derived_as, derived_names, IsFirstDeep, IsShallowUnit};
+ghost use Rattle.im_driver.specs.Steps.{HasCrowded, IsReady, IsTooDeep, refused_at};
 
 use crate::laws::{program_law, written_law};
 use crate::refused::{Refused, whole};
 use im_check::{CheckFault, Limit, check};
-use im_check_counts::first_crowded;
+use im_check_counts::{Deep, first_crowded, first_deep};
 use im_ctree::Tree;
 use im_fault::{LineFault, Quantity, SourceFault, Subject};
 use im_front::{Text, place_of, read_source};
@@ -75,6 +77,40 @@ fn crowded_of(
     }
 }
 
+// This typedef name stands for too many derivations.
+fn deep(alloc: Global, source: &[u8], spans: &[(u32, u32)], x: Deep<'_>) -> Refused
+    requires { length source.now < 2 ^ 31 }
+    ensures { (u : t.Tree) → IsFirstDeep (derived_names u) (derived_as x.entry)
+        → IsTooDeep source.now spans.now u result }
+{
+    match Vec::from_slice(alloc, x.name) {
+        Ok(name) => Refused {
+            fault: SourceFault::Limit {
+                quantity: Quantity::Derivations,
+                count: x.count as u64,
+            },
+            subject: Subject::Declared(place_of(source, spans, x.at), name),
+        },
+        Err(_) => whole(SourceFault::OutOfMemory),
+    }
+}
+
+// Whether each typedef name stands for few enough derivations, so that typing goes no deeper.
+fn shallow(alloc: Global, source: &[u8], spans: &[(u32, u32)], tree: &Tree) -> Result<(), Refused>
+    requires { length source.now < 2 ^ 31 }
+    ensures { MatchResult result (λ _. IsShallowUnit (tree_of tree.now))
+        (IsTooDeep source.now spans.now (tree_of tree.now)) }
+{
+    let found = match first_deep(alloc, tree) {
+        Ok(found) => found,
+        Err(_) => return Err(whole(SourceFault::OutOfMemory)),
+    };
+    match found {
+        None => Ok(()),
+        Some(x) => Err(deep(alloc, source, spans, x)),
+    }
+}
+
 /// The typed program of a source, or why it has none. Tokens and tree are given back before its end.
 pub(crate) fn typed_program(alloc: Global, source: &[u8]) -> Result<Prog, Refused>
     ensures { MatchResult result (IsReady source.now) (IsRefusedFor source.now) }
@@ -89,6 +125,10 @@ pub(crate) fn typed_program(alloc: Global, source: &[u8]) -> Result<Prog, Refuse
         Ok(crowded) => crowded,
         Err(_) => return Err(whole(SourceFault::OutOfMemory)),
     };
+    match shallow(alloc, source, &spans, &tree) {
+        Ok(()) => {}
+        Err(refused) => return Err(refused),
+    }
     match check(alloc, tree) {
         Ok(prog) => Ok(prog),
         Err(fault) => Err(untyped(source, &spans, fault, crowded)),

@@ -1,15 +1,16 @@
 -- A source has one program, and of a right source no refusal but want of memory is true.
-use Rattle.std.proofs.Common.{◌≡◌, ℕ, ◌+◌, ◌*◌, ◌≤◌, List, Some, refl, sym, subst, arith}
+use Rattle.std.proofs.Common.{◌≡◌, ℕ, ◌+◌, ◌*◌, ◌≤◌, List, ◌∷◌, Some, refl, sym, subst, arith}
 use Rattle.std.specs.Prelude.{slice_get}
 use Rattle.im_fault.specs.declared.fault.LineFault.{LineFault}
-use Rattle.im_fault.specs.declared.fault.LineFault.TheVariants.{BadByte, OpenComment, OpenLiteral, BadEscape, BadNumber, BadDirective, Syntax, Nesting, Rule}
+use Rattle.im_fault.specs.declared.fault.LineFault.TheVariants.{BadByte, OpenComment, OpenLiteral, BadEscape, BadNumber, BadDirective, Syntax, Nesting, Links, Rule}
 use Rattle.im_fault.specs.declared.fault.Place.{Place}
-use Rattle.im_fault.specs.declared.fault.Quantity.TheVariants.{Source, Parameters, Size, Statics, Frame, Code}
+use Rattle.im_fault.specs.declared.fault.Quantity.TheVariants.{Source, Parameters, Size, Statics, Frame, Code, Derivations}
 use Rattle.im_fault.specs.declared.fault.SourceFault.TheVariants.{Line, Limit, OutOfMemory}
 use Rattle.im_tok.specs.declared.token.Token.{Token}
 use Rattle.im_lex.specs.Lexing.{Lexes, StuckAt}
 use Rattle.im_word.specs.Words.{Word}
 use Rattle.im_word.specs.Nesting.{NoneOver}
+use Rattle.im_parse.specs.Links.{NoneLinked}
 use Rattle.im_ctree.specs.Tree as t
 use Rattle.im_ctree.specs.declared.unit.Tree.{Tree}
 use Rattle.im_ctree.specs.Shape.{tree_of}
@@ -22,7 +23,10 @@ use Rattle.im_typed.specs.Counts.{prog_nodes}
 use Rattle.im_check.specs.im_rules.TypedUnit.{TypedUnit}
 use Rattle.im_check.specs.im_rules.Laws.{UnitOnce, UnitBreaksNone}
 use Rattle.im_check.specs.im_rules_limits.Limits as limits
-use Rattle.im_driver.specs.Compiled.{IsTreeOf, IsProgramOf, IsRuleBroken, IsExceeded, IsExceededByStatics}
+use Rattle.im_driver.specs.Compiled.{IsTreeOf, IsProgramOf, IsRuleBroken, IsExceeded, IsExceededByStatics, IsDeepRefused}
+use Rattle.im_check_counts.specs.Derivations.{Derived, IsShallowUnit}
+use Rattle.std.specs.List.{Contains}
+use Rattle.std.proofs.lemmas.List.Elements.{Contains-append_right}
 use Rattle.im_driver_laws.specs.Laws.{OneProgramLaw, RightLaw}
 use Rattle.im_driver_laws.proofs.Units.{TokensLaw, SpeltOnceLaw, one_list, one_unit}
 
@@ -53,10 +57,19 @@ module _ (lexed : TokensLaw) (apart : ApartLaw) (listed : OneListLaw) (spelt : S
         let most = none r.number r.refused.2.within in
         absurd (omega (arith, over, most))
 
+    linked : (place : Place) → IsRefusedAt source place unit.Links → ⊥
+    linked place r =
+        let same = one_list lexed listed source r.tokens h.tokens r.refused.0 h.is_tree.parsed.0 r.lexes h.is_tree.lexes r.refused.1 h.is_tree.parsed.1 in
+        let none = subst (λ (z : List Word). NoneLinked 512 z) (sym same) h.is_tree.parsed.2.1 in
+        let first = r.refused.2.1 in
+        let over = first.over in
+        let most = none r.number first.within in
+        absurd (omega (arith, over, most))
+
     unspelt : (place : Place) → IsRefusedAt source place unit.Syntax → ⊥
     unspelt place r =
         let same = one_list lexed listed source r.tokens h.tokens r.refused.0 h.is_tree.parsed.0 r.lexes h.is_tree.lexes r.refused.1 h.is_tree.parsed.1 in
-        r.refused.2.1.unspelt (tree_of h.tree) (subst (λ (z : List Word). Spells (tree_of h.tree) z) (sym same) h.is_tree.parsed.2.1)
+        r.refused.2.2.unspelt (tree_of h.tree) (subst (λ (z : List Word). Spells (tree_of h.tree) z) (sym same) h.is_tree.parsed.2.2)
 
     unbroken : (place : Place) (rule : ℕ) → IsRuleBroken source place rule → ⊥
     unbroken place rule b = breaks (tree_of b.tree) prog rule b.token (typed_as b.tokens b.tree b.is_tree) b.broken
@@ -67,6 +80,15 @@ module _ (lexed : TokensLaw) (apart : ApartLaw) (listed : OneListLaw) (spelt : S
     few_statics : (count : ℕ) → IsExceededByStatics source count → ⊥
     few_statics count e = within_as e.tokens e.tree e.is_tree limits.of_statics count e.exceeds
 
+    not_deep : IsShallowUnit (tree_of h.tree) → (count : ℕ) → IsDeepRefused source count → ⊥
+    not_deep shallow count d =
+        let same = one_unit lexed listed spelt source h.tokens d.tokens h.tree d.tree h.is_tree d.is_tree in
+        let few = subst IsShallowUnit same shallow in
+        let there = subst (λ (z : List Derived). Contains z d.name) (sym d.first.place) (Contains-append_right d.first.before (d.name ∷ d.first.behind) d.name (0, omega arith, refl)) in
+        let most = few d.name there in
+        let over = d.first.over in
+        absurd (omega (arith, most, over))
+
   pub right : RightLaw
   right source prog (Line place BadByte) h r = absurd (no_token source prog h.program place BadByte r)
   right source prog (Line place OpenComment) h r = absurd (no_token source prog h.program place OpenComment r)
@@ -75,6 +97,7 @@ module _ (lexed : TokensLaw) (apart : ApartLaw) (listed : OneListLaw) (spelt : S
   right source prog (Line place BadNumber) h r = absurd (no_token source prog h.program place BadNumber r)
   right source prog (Line place BadDirective) h r = absurd (no_token source prog h.program place BadDirective r)
   right source prog (Line place Nesting) h r = absurd (nested source prog h.program place r)
+  right source prog (Line place Links) h r = absurd (linked source prog h.program place r)
   right source prog (Line place Syntax) h r = absurd (unspelt source prog h.program place r)
   right source prog (Line place (Rule number)) h r = absurd (unbroken source prog h.program place number r)
   right source prog (Limit Source count) h r = let few = h.short in let many = r.0 in let is = r.1 in absurd (omega (arith, few, many, is))
@@ -94,4 +117,5 @@ module _ (lexed : TokensLaw) (apart : ApartLaw) (listed : OneListLaw) (spelt : S
       let over = r.large.large in
       let nodes = subst (λ (z : Prog). count ≤ 4096 + 256 * prog_nodes z) same r.large.nodes in
       absurd (omega (arith, most, over, nodes))
+  right source prog (Limit Derivations count) h r = absurd (not_deep source prog h.program h.shallow count r)
   right source prog OutOfMemory h r = refl

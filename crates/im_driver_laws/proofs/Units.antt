@@ -31,5 +31,5 @@ one_unit lexed listed spelt source ts us a b x y =
     let vs = x.parsed.0 in
     let ws = y.parsed.0 in
     let same = one_list lexed listed source ts us vs ws x.lexes y.lexes x.parsed.1 y.parsed.1 in
-    let spelled = subst (λ (z : List Word). Spells (tree_of a) z) same x.parsed.2.1 in
-    spelt (tree_of a) (tree_of b) ws spelled y.parsed.2.1
+    let spelled = subst (λ (z : List Word). Spells (tree_of a) z) same x.parsed.2.2 in
+    spelt (tree_of a) (tree_of b) ws spelled y.parsed.2.2

@@ -11,15 +11,16 @@ ghost use Rattle.im_eval_steps.specs.Going.{Goes, GoesNow, types_of};
 use crate::at_once::{begin_tasks, hasten};
 use crate::resume::{resume_ended, resume_place, resume_value};
 use crate::run::Run;
-use im_eval_machine::{Code, Found, Stopped, forget, get_char, pay};
+use im_eval_machine::{Code, Found, Stopped, forget, pay, serve};
 use im_eval_steps::{next_argument, next_piece};
 use im_eval_store::Value;
 use im_eval_tasks::{
     Ended, Next, Now, Rest, Task, Use, begin_place, begin_statement, next_statement,
 };
+use im_store::Number;
 use std::alloc::Global;
 
-/// What follows one step; a call, `getchar`, `putchar` and the body of a loop take a unit of fuel.
+/// What follows one step; a call, a service and the body of a loop take a unit of fuel.
 fn next_of<'p>(
     alloc: Global,
     code: Code<'p>,
@@ -37,8 +38,8 @@ fn next_of<'p>(
         Now::Evaluate(expr) => begin_tasks(alloc, code, &mut run.machine, run.here, expr),
         Now::Locate(place) => Ok(begin_place(run.here, place)),
         Now::Arguments(call) => next_argument(alloc, code, &mut run.machine, &mut run.here, call),
-        Now::Getchar => {
-            let number = get_char(&mut run.machine)?;
+        Now::Serve(service) => {
+            let number = serve(&mut run.machine, code.capacity, service, Number::ZERO)?;
             Ok(Next::Just(Now::Value(Found::One(Value::Number(number)))))
         }
         Now::Execute(statement) => Ok(begin_statement(statement)),

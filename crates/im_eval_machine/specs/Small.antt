@@ -3,7 +3,7 @@ use Rattle.std.specs.Prelude.{◌^◌, ◌&&◌, map, ℤ, pos, neg_ℤ, int_lt,
 use Rattle.std.specs.Option.{option_map}
 use Rattle.im_store.specs.Objects as o
 use Rattle.im_store.specs.Statics.{StaticObject}
-use Rattle.im_typed.specs.Program.{Place, Static, Local, Target, Member, Expr, Constant, NullPointer, Read, Address, Convert, Unary, Binary, Move, MoveBy, Distance, Compare, Not, And, Or, Choose, Comma, Discard, Assign, Update, Increment, Part, Call, Getchar, Putchar, Exprs, no_exprs, more_exprs, Piece, Stmt, Do, Forget, Initialise, Block, If, While, DoWhile, For, Switch, Break, Continue, Return, Stmts, no_stmts, more_stmts, Func, Prog}
+use Rattle.im_typed.specs.Program.{Place, Static, Local, Target, Member, Expr, Constant, NullPointer, Read, Address, Convert, Unary, Binary, Move, MoveBy, Distance, Compare, Not, And, Or, Choose, Comma, Discard, Assign, Update, Increment, Part, Call, Serve, no_argument, an_argument, Exprs, no_exprs, more_exprs, Piece, Stmt, Do, Forget, Initialise, Block, If, While, DoWhile, For, Switch, Break, Continue, Return, Stmts, no_stmts, more_stmts, Func, Prog}
 
 -- a number that the operators take; 0 in the place of one with more bits
 abbrev pub small : ℤ → ℤ
@@ -39,8 +39,8 @@ abbrev mutual
   small_expr (Increment a change old) = Increment (small_place a) change old
   small_expr (Part from x e) = Part from x (small_expr e)
   small_expr (Call f es) = Call f (small_exprs es)
-  small_expr Getchar = Getchar
-  small_expr (Putchar e) = Putchar (small_expr e)
+  small_expr (Serve service no_argument) = (Serve service no_argument)
+  small_expr (Serve service (an_argument e)) = Serve service (an_argument (small_expr e))
 
   pub small_exprs : Exprs → Exprs
   small_exprs no_exprs = no_exprs

@@ -2,14 +2,9 @@
 use Rattle.std.specs.Prelude.{ℤ, [], ◌∷◌}
 use Rattle.im_store.specs.Objects.{Value}
 use Rattle.im_typed.specs.declared.expression.Change.{Change}
-use Rattle.im_typed.specs.Meaning.{next_byte}
 use Rattle.im_typed.specs.Program.{Scalar}
-use Rattle.im_typed.specs.Runs.{Run, ◌>>=◌, look, in_store}
+use Rattle.im_typed.specs.Runs.{Run, ◌>>=◌, in_store}
 use Rattle.im_typed.specs.Values.{Values, changed, changed_kind, write_at}
-
--- the next byte of input is taken
-abbrev pub reads_byte : Run Values
-reads_byte = look >>= (λ w. next_byte w.input)
 
 -- what stands at a place is changed by a number, once its old value was read
 abbrev pub changes : Change → Value → ℤ → Value → Run Values

@@ -29,4 +29,4 @@ pub use operator::{Last, changed, changed_kind, finished, number_of, small};
 pub use outcome::{Outcome, Reason};
 pub use start::machine_of;
 pub use stopped::Stopped;
-pub use streams::{get_char, put_char};
+pub use streams::serve;

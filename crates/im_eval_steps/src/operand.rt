@@ -9,7 +9,7 @@ ghost use Rattle.im_eval_tasks.specs.declared.tasks.Task.{Task};
 ghost use Rattle.im_eval_steps.specs.Going.{Goes, follows, types_of};
 
 use crate::change::change_to;
-use im_eval_machine::{Code, Found, Machine, Stopped, finished, number_of, put_char};
+use im_eval_machine::{Code, Found, Machine, Stopped, finished, number_of, serve};
 use im_eval_store::Value;
 use im_eval_tasks::{Call, Next, Now, Operand, onward};
 use im_num::NoMemory;
@@ -60,10 +60,10 @@ pub fn resume_operand<'p>(
                 Ok(Next::Just(Now::Evaluate(second)))
             }
         }
-        Operand::Putchar => {
+        Operand::Serve(service) => {
             let number = number_of(value)?;
-            let written = put_char(machine, code.capacity, number)?;
-            Ok(Next::Just(Now::Value(Found::One(Value::Number(written)))))
+            let given = serve(machine, code.capacity, service, number)?;
+            Ok(Next::Just(Now::Value(Found::One(Value::Number(given)))))
         }
         Operand::Change {
             place,

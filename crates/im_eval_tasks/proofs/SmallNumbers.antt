@@ -9,7 +9,7 @@ use Rattle.im_num.specs.Kinds.{IsOfKind}
 use Rattle.im_ctype.specs.declared.cell.Cell.{Cell}
 use Rattle.im_store.specs.Objects as o
 use Rattle.im_store.specs.Statics.{StaticObject}
-use Rattle.im_typed.specs.Program.{Place, Static, Local, Target, Member, Expr, Constant, NullPointer, Read, Address, Convert, Unary, Binary, Move, MoveBy, Distance, Compare, Not, And, Or, Choose, Comma, Discard, Assign, Update, Increment, Part, Call, Getchar, Putchar, Exprs, no_exprs, more_exprs, Piece, Stmt, Do, Forget, Initialise, Block, If, While, DoWhile, For, Switch, Break, Continue, Return, Stmts, no_stmts, more_stmts, LocalObject, Func, Prog}
+use Rattle.im_typed.specs.Program.{Place, Static, Local, Target, Member, Expr, Constant, NullPointer, Read, Address, Convert, Unary, Binary, Move, MoveBy, Distance, Compare, Not, And, Or, Choose, Comma, Discard, Assign, Update, Increment, Part, Call, Serve, no_argument, an_argument, Exprs, no_exprs, more_exprs, Piece, Stmt, Do, Forget, Initialise, Block, If, While, DoWhile, For, Switch, Break, Continue, Return, Stmts, no_stmts, more_stmts, LocalObject, Func, Prog}
 use Rattle.im_typed.specs.Typing.{Each, IsInteger, IsTypedPlace, IsTyped, AreArguments, IsPieceOf, IsReturned, IsTypedStmt, AreTyped, IsTypedFunc, IsFirstValue, AreFirstValues, IsTypedStatic, IsWellTyped, cells_at, parameters}
 use Rattle.im_eval_machine.specs.Small.{small, small_place, small_expr, small_exprs, small_piece, small_stmt, small_stmts, small_func, small_value, small_static, small_prog}
 
@@ -68,8 +68,8 @@ module _ (g : Prog) (f : Func) where
     same_expr (Increment a change old) h = ap (λ y. Increment y change old) (same_place a h.0)
     same_expr (Part from x e) h = ap (Part from x) (same_expr e h.1)
     same_expr (Call k es) h = ap (Call k) (same_exprs (parameters (slice_get g.funcs k)) es h.1)
-    same_expr Getchar h = refl
-    same_expr (Putchar e) h = ap Putchar (same_expr e h.0)
+    same_expr (Serve service no_argument) h = refl
+    same_expr (Serve service (an_argument e)) h = ap (λ z. Serve service (an_argument z)) (same_expr e h.0)
 
     same_exprs : (os : List LocalObject) (es : Exprs) → AreArguments g f os es → small_exprs es ≡ es
     same_exprs [] no_exprs h = refl

@@ -1,5 +1,5 @@
 -- What comes of all that is still to do, in each activation.
-use Rattle.std.specs.Prelude.{◌≡◌, ◌==◌, ℕ, List, [], ◌∷◌, reverse, drop, Ok, Err}
+use Rattle.std.specs.Prelude.{◌≡◌, ◌==◌, ℕ, List, [], ◌∷◌, reverse, drop, Ok, Err, pos}
 use Rattle.std.specs.Prelude.{Result as Either}
 use Rattle.im_ctype.specs.Table.{Table}
 use Rattle.im_store.specs.declared.undefined.Undefined as causes
@@ -7,22 +7,22 @@ use Rattle.im_store.specs.Objects as o
 use Rattle.im_store.specs.Pointers.{member_at}
 use Rattle.im_typed.specs.Runs.{State, Fails, Answer, Stops, Run, ◌>>=◌, give, look, change, with_fuel, checked, in_store}
 use Rattle.im_typed.specs.Values.{Values, scalar, number_of, used, write_at, changed, changed_kind}
-use Rattle.im_typed.specs.Meaning.{Around, Flow, Next as NextFlow, change_store, does, forgotten, local, next_byte, place_of, value_of}
+use Rattle.im_typed.specs.Meaning.{Around, Flow, Next as NextFlow, change_store, does, forgotten, local, served, place_of, value_of}
 use Rattle.im_typed.specs.Program.{Scalar}
 use Rattle.im_typed.specs.Programs.{Setting, around, call_result, calls_of, leaving}
 use Rattle.im_eval_store.specs.Shown.{shown}
 use Rattle.im_eval_tasks.specs.declared.steps.Now.{Now}
-use Rattle.im_eval_tasks.specs.declared.steps.Now.TheVariants.{Evaluate, Locate, Arguments, Getchar, Execute, Forget, Statements, Pieces, Turn, Enter, Value as ValueNow, At as AtNow, Ended as EndedNow}
+use Rattle.im_eval_tasks.specs.declared.steps.Now.TheVariants.{Evaluate, Locate, Arguments, Serve as ServeNow, Execute, Forget, Statements, Pieces, Turn, Enter, Value as ValueNow, At as AtNow, Ended as EndedNow}
 use Rattle.im_eval_tasks.specs.declared.steps.Next.{Next}
 use Rattle.im_eval_tasks.specs.declared.steps.Next.TheVariants.{Just, Before}
 use Rattle.im_eval_machine.specs.declared.here.Here.{Here}
 use Rattle.im_eval_tasks.specs.declared.tasks.Task.{Task}
 use Rattle.im_eval_tasks.specs.declared.tasks.Operand.{Operand}
-use Rattle.im_eval_tasks.specs.declared.tasks.Operand.TheVariants.{Last, Left, Choose, Putchar, Change, Target, Argument}
+use Rattle.im_eval_tasks.specs.declared.tasks.Operand.TheVariants.{Last, Left, Choose, Serve, Change, Target, Argument}
 use Rattle.im_eval_tasks.specs.declared.tasks.Task.TheVariants.{Operand as OperandTask, Whole, Use as UseTask, At, Member, Rest as RestTask, Leave}
 use Rattle.im_eval_machine.specs.Shown.{values}
 use Rattle.im_eval_tasks.specs.Found.{flow}
-use Rattle.im_eval_tasks.specs.Tasks.{place_in, expr_in, stmt_in, lasts, lefts, chooses, puts, wholes, ats, calls_on, takes_argument, initialises, does_left, loops, enters_body, uses, goes_after}
+use Rattle.im_eval_tasks.specs.Tasks.{place_in, expr_in, stmt_in, lasts, lefts, chooses, serves, wholes, ats, calls_on, takes_argument, initialises, does_left, loops, enters_body, uses, goes_after}
 
 -- the value of an expression, a place, or the way in which a statement ended
 pub data Completion : Type 0 where
@@ -44,7 +44,7 @@ module _ (types : Table) (g : Setting) (n : ℕ) where
   operates h (Last l) v = lasts l v
   operates h (Left l b) v = lefts types (in_activation h) l b v
   operates h (Choose a b) v = chooses types (in_activation h) a b v
-  operates h Putchar v = puts types (in_activation h) v
+  operates h (Serve service) v = serves types (in_activation h) service v
   operates h (Change at by before) v =
       checked (number_of v) >>= (λ z. in_store (changed by (shown before) z) >>= (λ w.
       write_at (Scalar (changed_kind by)) (shown at) (w ∷ []) >>= (λ _. scalar w)))
@@ -57,7 +57,7 @@ module _ (types : Table) (g : Setting) (n : ℕ) where
   operand_goes h (Last l) next v = operates h (Last l) v >>= (λ vs. next (Valued vs))
   operand_goes h (Left l b) next v = operates h (Left l b) v >>= (λ vs. next (Valued vs))
   operand_goes h (Choose a b) next v = operates h (Choose a b) v >>= (λ vs. next (Valued vs))
-  operand_goes h Putchar next v = operates h Putchar v >>= (λ vs. next (Valued vs))
+  operand_goes h (Serve service) next v = operates h (Serve service) v >>= (λ vs. next (Valued vs))
   operand_goes h (Change at by before) next v = operates h (Change at by before) v >>= (λ vs. next (Valued vs))
   operand_goes h (Argument call) next v = operates h (Argument call) v >>= (λ vs. next (Valued vs))
 
@@ -126,7 +126,7 @@ module _ (types : Table) (g : Setting) (n : ℕ) where
   runs h ts (Evaluate e) = then_valued h ts (value_of (in_activation h) (expr_in types e))
   runs h ts (Locate a) = then_placed h ts (place_of (in_activation h) (place_in types a))
   runs h ts (Arguments call) = then_valued h ts (calls_on types (in_activation h) call)
-  runs h ts Getchar = then_valued h ts (with_fuel (look >>= (λ w. next_byte w.input)))
+  runs h ts (ServeNow service) = then_valued h ts (with_fuel (served (in_activation h).capacity service (pos 0)))
   runs h ts (Execute s) = then_flowed h ts (does (in_activation h) n (stmt_in types s))
   runs h ts (Forget x) =
       then_flowed h ts (change_store (forgotten (local (in_activation h) x)) >>= (λ _. give NextFlow))

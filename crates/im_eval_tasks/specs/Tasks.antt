@@ -1,10 +1,8 @@
 -- What tasks mean: what is still to do in an activation, in the terms of the meaning of programs.
-use Rattle.std.specs.Prelude.{ℕ, List, [], ◌∷◌, ◌++◌, map, drop, take, length, ℤ, pos, nat_abs, Option, Some, None, true, false, not, if◌then◌else◌}
+use Rattle.std.specs.Prelude.{ℕ, List, [], ◌∷◌, ◌++◌, map, drop, take, length, ℤ, pos, Option, Some, None, true, false, not, if◌then◌else◌}
 use denote.Bor.{Bor}
 use Rattle.std.specs.Prelude.{Box}
 use Rattle.std.specs.declared.alloc.Global.{Global}
-use Rattle.im_num.specs.declared.kind.Kind.TheVariants.{U8}
-use Rattle.im_num.specs.Kinds.{wrap}
 use Rattle.im_ctype.specs.Table.{Table}
 use Rattle.im_store.specs.Checks.{Checked, Fine, then_}
 use Rattle.im_store.specs.Numbers.{apply, apply_one}
@@ -13,6 +11,7 @@ use Rattle.im_store.specs.Objects.{Store}
 use Rattle.im_store.specs.Pointers.{moved_by, bytes_moved, distance, compare_values, holds}
 use Rattle.im_eval_store.specs.declared.value.Value.{Value}
 use Rattle.im_eval_store.specs.Shown.{shown}
+use Rattle.im_serve.specs.declared.service.Service.{Service}
 use Rattle.im_typed.specs.declared.expression.Expr.{Expr}
 use Rattle.im_typed.specs.declared.expression.Place.{Place}
 use Rattle.im_typed.specs.declared.statement.Stmt.{Stmt}
@@ -21,7 +20,7 @@ use Rattle.im_typed.specs.Program as p
 use Rattle.im_typed.specs.ProgramOf.{access_of, place_of as typed_place, expr_of as typed_expr, stmt_of as typed_stmt, piece_of as typed_piece}
 use Rattle.im_typed.specs.Runs.{Run, ◌>>=◌, give, with_fuel, either, checked, in_store}
 use Rattle.im_typed.specs.Values.{Values, scalar, number, truth, used, value_in, number_in, number_of, cells_of, read_at, write_at, update}
-use Rattle.im_typed.specs.Meaning.{Around, Flow, Next, Returned, after, after_turn, change_store, cleared, does, does_from, entered, given_offsets, initialise, local, out_of_switch, put_byte, turns, value_of, values_of}
+use Rattle.im_typed.specs.Meaning.{Around, Flow, Next, Returned, after, after_turn, change_store, cleared, does, does_from, entered, given_offsets, initialise, local, out_of_switch, served, turns, value_of, values_of}
 use Rattle.im_eval_machine.specs.Small.{small_place, small_expr, small_stmt, small_piece}
 use Rattle.im_eval_machine.specs.declared.operator.Last.{Last}
 use Rattle.im_eval_machine.specs.Operators.{gives}
@@ -91,8 +90,8 @@ module _ (types : Table) where
     abbrev pub chooses : Bor (Box Expr Global) → Bor (Box Expr Global) → o.Value → Run Values
     chooses a b v = either (holds v) (value_of c (operand_in a)) (value_of c (operand_in b))
 
-    abbrev pub puts : o.Value → Run Values
-    puts v = checked (number_of v) >>= (λ z. with_fuel (put_byte c.capacity (nat_abs (wrap U8 z))))
+    abbrev pub serves : Service → o.Value → Run Values
+    serves service v = checked (number_of v) >>= (λ z. with_fuel (served c.capacity service z))
 
     -- what is done with a value, whatever it is
     abbrev pub wholes : Whole → Values → Run Values

@@ -57,7 +57,7 @@ pub fn begin<'p>(alloc: Global, expr: &'p Expr) -> Next<'p>
     match expr {
         Expr::Number(_, value) => Next::Just(Now::Value(Found::One(Value::Number(small(*value))))),
         Expr::Null => Next::Just(Now::Value(Found::One(Value::Null))),
-        Expr::Getchar => Next::Just(Now::Getchar),
+        Expr::Serve(service, None) => Next::Just(Now::Serve(*service)),
         Expr::Call(function, arguments) => Next::Just(Now::Arguments(Call {
             function: *function,
             ready: Vec::new(alloc),
@@ -90,9 +90,9 @@ pub fn begin<'p>(alloc: Global, expr: &'p Expr) -> Next<'p>
             Now::Evaluate(operand),
             Task::Operand(Operand::Last(Last::Not)),
         ),
-        Expr::Putchar(operand) => Next::Before(
+        Expr::Serve(service, Some(operand)) => Next::Before(
             Now::Evaluate(operand),
-            Task::Operand(Operand::Putchar),
+            Task::Operand(Operand::Serve(*service)),
         ),
         Expr::Comma(left, right) => {
             Next::Before(Now::Evaluate(left), Task::Whole(Whole::Comma(right)))

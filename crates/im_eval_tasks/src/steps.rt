@@ -2,6 +2,7 @@ use crate::completion::Ended;
 use crate::tasks::{Call, Initialiser, Loop, Statements, Task};
 use im_eval_machine::Found;
 use im_eval_store::Value;
+use im_serve::Service;
 use im_typed::{Expr, Place, Stmt};
 
 /// What is done next.
@@ -11,7 +12,8 @@ pub enum Now<'p> {
     Locate(&'p Place),
     /// The arguments of a call that are left, then the call.
     Arguments(Call<'p>),
-    Getchar,
+    /// A service that has no parameter.
+    Serve(Service),
     Execute(&'p Stmt),
     /// A variable loses its value.
     Forget(u32),

@@ -1,6 +1,7 @@
 use im_eval_machine::{Here, Last};
 use im_eval_store::Value;
 use im_num::Kind;
+use im_serve::Service;
 use im_store::{BinaryOp, Comparison};
 use im_typed::{Access, Case, Change, Expr, Piece, Stmt};
 
@@ -130,7 +131,8 @@ pub enum Operand<'p> {
     Left(Left, &'p Box<Expr>),
     /// The first operand of `?:` comes.
     Choose(&'p Box<Expr>, &'p Box<Expr>),
-    Putchar,
+    /// The argument of a service comes.
+    Serve(Service),
     /// The amount of a compound assignment comes.
     Change {
         place: Value,

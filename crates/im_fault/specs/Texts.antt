@@ -1,9 +1,9 @@
 -- What is said of a refused source.
 use Rattle.std.specs.Prelude.{ℕ, List, ◌++◌, codes, decimal}
 use Rattle.im_fault.specs.declared.fault.LineFault.{LineFault}
-use Rattle.im_fault.specs.declared.fault.LineFault.TheVariants.{BadByte, OpenComment, OpenLiteral, BadEscape, BadNumber, BadDirective, Syntax, Nesting, Rule}
+use Rattle.im_fault.specs.declared.fault.LineFault.TheVariants.{BadByte, OpenComment, OpenLiteral, BadEscape, BadNumber, BadDirective, Syntax, Nesting, Links, Rule}
 use Rattle.im_fault.specs.declared.fault.Quantity.{Quantity}
-use Rattle.im_fault.specs.declared.fault.Quantity.TheVariants.{Source, Parameters, Size, Statics, Frame, Code}
+use Rattle.im_fault.specs.declared.fault.Quantity.TheVariants.{Source, Parameters, Size, Statics, Frame, Code, Derivations}
 use Rattle.im_fault.specs.declared.fault.SourceFault.{SourceFault}
 use Rattle.im_fault.specs.declared.fault.SourceFault.TheVariants.{Line, Limit, OutOfMemory}
 
@@ -16,6 +16,7 @@ line_fault_text BadNumber = codes "bad number"
 line_fault_text BadDirective = codes "bad directive"
 line_fault_text Syntax = codes "syntax"
 line_fault_text Nesting = codes "nesting over 200"
+line_fault_text Links = codes "links over 512"
 line_fault_text (Rule number) = codes "rule " ++ decimal number
 
 abbrev pub quantity_name : Quantity → List ℕ
@@ -25,8 +26,9 @@ quantity_name Size = codes "size"
 quantity_name Statics = codes "statics"
 quantity_name Frame = codes "frame"
 quantity_name Code = codes "code"
+quantity_name Derivations = codes "derivations"
 
--- the most that there may be: parameters of a function, bytes of the others
+-- the most that there may be: parameters of a function, derivations of a type, bytes of the others
 abbrev pub limit_of : Quantity → ℕ
 limit_of Source = 4194304
 limit_of Parameters = 8
@@ -34,6 +36,7 @@ limit_of Size = 1048576
 limit_of Statics = 1048576
 limit_of Frame = 65536
 limit_of Code = 1044480
+limit_of Derivations = 250
 
 -- behind the name of the source's file
 abbrev pub source_fault_text : SourceFault → List ℕ

@@ -18,6 +18,8 @@ pub enum LineFault {
     Syntax,
     /// A token nested more than 200 deep.
     Nesting,
+    /// A token with which links pass 512: parentheses, brackets and commas that open one behind the other.
+    Links,
     /// A node that breaks the typing rule of that number.
     Rule(u32),
 }
@@ -37,6 +39,9 @@ pub enum Quantity {
     Frame,
     /// Bytes of the code, at most 1044480.
     Code,
+    /// Pointers, arrays and functions that the type of one typedef name is derived by (C11 6.2.5p20), at
+    /// most 250.
+    Derivations,
 }
 
 /// Where a source is at fault.
@@ -68,6 +73,6 @@ pub enum Subject {
     Whole,
     /// The function or object of this name.
     Named(Vec<u8>),
-    /// The function or object of this name, which is declared at the place.
+    /// The function, object or typedef name that is declared at the place.
     Declared(Place, Vec<u8>),
 }

@@ -5,7 +5,7 @@ use Rattle.std.proofs.lemmas.Bool.{ne_eqb}
 use Rattle.im_num.specs.declared.values.Cause.{Cause}
 use Rattle.im_num.specs.declared.values.Cause.TheVariants.{Entry, Return as Back}
 use Rattle.im_block.specs.declared.code.Line.{Line}
-use Rattle.im_block.specs.declared.code.Line.TheVariants.{Cut, Call, GetChar, PutChar}
+use Rattle.im_block.specs.declared.code.Line.TheVariants.{Cut, Call, Serve}
 use Rattle.im_block.specs.declared.code.Exit.{Exit}
 use Rattle.im_block.specs.declared.code.Exit.TheVariants.{Jump, Turn, Branch, Return}
 use Rattle.im_block.specs.declared.code.Block.{Block}
@@ -68,8 +68,8 @@ only_due (Some cause) = tt
 
 behind_call : (exit : Exit) (line : Line) (lines : List Line) → CutAfterCalls (forced_lines exit (due_behind line) lines) → CutAfterCalls (line ∷ forced_lines exit (due_behind line) lines)
 behind_call exit (Call to i first count) lines h = (starts exit Back lines, h)
-behind_call exit (GetChar to) lines h = (starts exit Back lines, h)
-behind_call exit (PutChar to from) lines h = (starts exit Back lines, h)
+behind_call exit (Serve to service None) lines h = (starts exit Back lines, h)
+behind_call exit (Serve to service (Some from)) lines h = (starts exit Back lines, h)
 behind_call exit line lines h = h
 
 calls : (exit : Exit) (due : Option Cause) (lines : List Line) → CutAfterCalls (forced_lines exit due lines)

@@ -3,7 +3,7 @@ use Rattle.std.specs.Prelude.{◌≡◌, ℕ, ◌==◌, if◌then◌else◌, Lis
 use Rattle.im_num.specs.declared.values.Cause.{Cause}
 use Rattle.im_num.specs.declared.values.Cause.TheVariants.{Entry, Return as Back, Loop}
 use Rattle.im_block.specs.declared.code.Line.{Line}
-use Rattle.im_block.specs.declared.code.Line.TheVariants.{Cut, Call, GetChar, PutChar}
+use Rattle.im_block.specs.declared.code.Line.TheVariants.{Cut, Call, Serve}
 use Rattle.im_block.specs.declared.code.Exit.{Exit}
 use Rattle.im_block.specs.declared.code.Exit.TheVariants.{Jump, Turn, Branch, Return}
 use Rattle.im_block.specs.declared.code.Block.{Block}
@@ -13,8 +13,7 @@ use Rattle.im_block.specs.declared.unit.Unit.{Unit as Code}
 -- why a cut stands behind a line, and before a block's exit
 abbrev pub due_behind : Line → Option Cause
 due_behind (Call to function first count) = Some Back
-due_behind (GetChar to) = Some Back
-due_behind (PutChar to from) = Some Back
+due_behind (Serve to service from) = Some Back
 due_behind line = None
 
 abbrev pub due_at : Option Cause → Exit → Option Cause

@@ -69,7 +69,7 @@ fn behind(line: Line) -> Option<Cause>
     ensures { result ≡ due_behind line }
 {
     match line {
-        Line::Call { .. } | Line::GetChar { .. } | Line::PutChar { .. } => Some(Cause::Return),
+        Line::Call { .. } | Line::Serve { .. } => Some(Cause::Return),
         _ => None,
     }
 }

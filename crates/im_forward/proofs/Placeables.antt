@@ -5,7 +5,7 @@ use Rattle.std.proofs.lemmas.List.Elements.{All-nil, All-cons, All-head, All-tai
 use Rattle.im_block.specs.declared.code.Place.{Place}
 use Rattle.im_block.specs.declared.code.Place.TheVariants.{Static, Local, Through}
 use Rattle.im_block.specs.declared.code.Line.{Line}
-use Rattle.im_block.specs.declared.code.Line.TheVariants.{Copy, Convert, Unary, Not, Compute, Compare, Move, Distance, Address, Read, Write, Spill, Cut, PutChar}
+use Rattle.im_block.specs.declared.code.Line.TheVariants.{Copy, Convert, Unary, Not, Compute, Compare, Move, Distance, Address, Read, Write, Spill, Cut, Serve}
 use Rattle.im_block.specs.declared.code.Exit.{Exit}
 use Rattle.im_block.specs.declared.code.Exit.TheVariants.{Jump, Turn, Branch, Return}
 use Rattle.im_block.specs.declared.code.Block.{Block}
@@ -57,7 +57,7 @@ module _ (n : ℕ) (instead : ℕ → ℕ) (keeps : (v : ℕ) → (instead v ≡
   line_from (Read to place kind access) w = (w.0, place_from place w.1)
   line_from (Write place kind from access) w = (place_from place w.0, one_from from w.1)
   line_from (Spill slot from access) w = one_from from w
-  line_from (PutChar to from) w = (w.0, one_from from w.1)
+  line_from (Serve to service (Some from)) w = (w.0, one_from from w.1)
   line_from line w = w
 
   exit_from : (exit : Exit) → ExitFrom n exit → ExitFrom n (exit_using instead exit)

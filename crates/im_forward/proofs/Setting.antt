@@ -1,8 +1,8 @@
 -- A line that sets another register in the place of one, and the line behind it that passes the value on.
 use Rattle.std.proofs.Common.{◌≡◌, ℕ, ◌<◌, ◌≤◌, List, [], Some, refl, ap}
-use Rattle.std.specs.Prelude.{◌==◌}
+use Rattle.std.specs.Prelude.{◌==◌, None}
 use Rattle.im_block.specs.declared.code.Line.{Line}
-use Rattle.im_block.specs.declared.code.Line.TheVariants.{Put, PutNull, Copy, Convert, Unary, Not, Compute, Compare, Move, Distance, Address, Read, Write, Reload, Spill, Cut, Call, GetChar, PutChar}
+use Rattle.im_block.specs.declared.code.Line.TheVariants.{Put, PutNull, Copy, Convert, Unary, Not, Compute, Compare, Move, Distance, Address, Read, Write, Reload, Spill, Cut, Call, Serve}
 use Rattle.im_block.specs.declared.unit.Function.{Function}
 use Rattle.im_block.specs.Shape.{cost}
 use Rattle.im_block.specs.Wellformed.{LineWithin, LineThere, accesses_of_line}
@@ -34,8 +34,8 @@ sets_target t (Reload to slot access) e q = cc
 sets_target t (Spill slot from access) e q = cc
 sets_target t (Cut cause) e q = cc
 sets_target t (Call to i first count) e q = cc
-sets_target t (GetChar to) e q = cc
-sets_target t (PutChar to from) e q = cc
+sets_target t (Serve to service None) e q = cc
+sets_target t (Serve to service (Some from)) e q = cc
 
 pub sets_setting : (t v : ℕ) (x : Line) → target x ≡ Some t → (q : ℕ) → sets (setting v x) q ≡ (q == v)
 sets_setting t v (Put to z) e q = refl
@@ -55,8 +55,8 @@ sets_setting t v (Reload to slot access) e q = cc
 sets_setting t v (Spill slot from access) e q = cc
 sets_setting t v (Cut cause) e q = cc
 sets_setting t v (Call to i first count) e q = cc
-sets_setting t v (GetChar to) e q = cc
-sets_setting t v (PutChar to from) e q = cc
+sets_setting t v (Serve to service None) e q = cc
+sets_setting t v (Serve to service (Some from)) e q = cc
 
 pub uses_setting : (v : ℕ) (x : Line) (q : ℕ) → uses (setting v x) q ≡ uses x q
 uses_setting v (Put to z) q = refl
@@ -76,8 +76,8 @@ uses_setting v (Reload to slot access) q = refl
 uses_setting v (Spill slot from access) q = refl
 uses_setting v (Cut cause) q = refl
 uses_setting v (Call to i first count) q = refl
-uses_setting v (GetChar to) q = refl
-uses_setting v (PutChar to from) q = refl
+uses_setting v (Serve to service None) q = refl
+uses_setting v (Serve to service (Some from)) q = refl
 
 pub cost_setting : (v : ℕ) (x : Line) → cost (setting v x) ≡ cost x
 cost_setting v (Put to z) = refl
@@ -97,8 +97,8 @@ cost_setting v (Reload to slot access) = refl
 cost_setting v (Spill slot from access) = refl
 cost_setting v (Cut cause) = refl
 cost_setting v (Call to i first count) = refl
-cost_setting v (GetChar to) = refl
-cost_setting v (PutChar to from) = refl
+cost_setting v (Serve to service None) = refl
+cost_setting v (Serve to service (Some from)) = refl
 
 pub accesses_setting : (v : ℕ) (x : Line) → accesses_of_line (setting v x) ≡ accesses_of_line x
 accesses_setting v (Put to z) = refl
@@ -118,8 +118,8 @@ accesses_setting v (Reload to slot access) = refl
 accesses_setting v (Spill slot from access) = refl
 accesses_setting v (Cut cause) = refl
 accesses_setting v (Call to i first count) = refl
-accesses_setting v (GetChar to) = refl
-accesses_setting v (PutChar to from) = refl
+accesses_setting v (Serve to service None) = refl
+accesses_setting v (Serve to service (Some from)) = refl
 
 pub uncut_setting : (v : ℕ) (x : Line) → IsNoCut x → IsNoCut (setting v x)
 uncut_setting v (Put to z) h e = h e
@@ -139,8 +139,8 @@ uncut_setting v (Reload to slot access) h e = h e
 uncut_setting v (Spill slot from access) h e = h e
 uncut_setting v (Cut cause) h e = h e
 uncut_setting v (Call to i first count) h e = h e
-uncut_setting v (GetChar to) h e = h e
-uncut_setting v (PutChar to from) h e = h e
+uncut_setting v (Serve to service None) h e = h e
+uncut_setting v (Serve to service (Some from)) h e = h e
 
 pub there_setting : (fs : List Function) (v : ℕ) (x : Line) → LineThere fs x → LineThere fs (setting v x)
 there_setting fs v (Put to z) h = h
@@ -160,8 +160,8 @@ there_setting fs v (Reload to slot access) h = h
 there_setting fs v (Spill slot from access) h = h
 there_setting fs v (Cut cause) h = h
 there_setting fs v (Call to i first count) h = h
-there_setting fs v (GetChar to) h = h
-there_setting fs v (PutChar to from) h = h
+there_setting fs v (Serve to service None) h = h
+there_setting fs v (Serve to service (Some from)) h = h
 
 pub within_setting : (n v : ℕ) → v < n → (x : Line) → LineWithin n x → LineWithin n (setting v x)
 within_setting n v lt (Put to z) h = lt
@@ -181,8 +181,8 @@ within_setting n v lt (Reload to slot access) h = h
 within_setting n v lt (Spill slot from access) h = h
 within_setting n v lt (Cut cause) h = h
 within_setting n v lt (Call to i first count) h = h
-within_setting n v lt (GetChar to) h = h
-within_setting n v lt (PutChar to from) h = h
+within_setting n v lt (Serve to service None) h = h
+within_setting n v lt (Serve to service (Some from)) h = h
 
 pub from_setting : (n v : ℕ) → n ≤ v → (x : Line) → LineFrom n x → LineFrom n (setting v x)
 from_setting n v le (Put to z) h = le
@@ -202,8 +202,8 @@ from_setting n v le (Reload to slot access) h = h
 from_setting n v le (Spill slot from access) h = h
 from_setting n v le (Cut cause) h = h
 from_setting n v le (Call to i first count) h = h
-from_setting n v le (GetChar to) h = h
-from_setting n v le (PutChar to from) h = h
+from_setting n v le (Serve to service None) h = h
+from_setting n v le (Serve to service (Some from)) h = h
 
 pub no_copy : (t : ℕ) (x : Line) → target x ≡ Some t → (a b : ℕ) → x ≡ Copy a b → ⊥
 no_copy t (Put to z) e a b is = cc
@@ -223,8 +223,8 @@ no_copy t (Reload to slot access) e a b is = cc
 no_copy t (Spill slot from access) e a b is = cc
 no_copy t (Cut cause) e a b is = cc
 no_copy t (Call to i first count) e a b is = cc
-no_copy t (GetChar to) e a b is = cc
-no_copy t (PutChar to from) e a b is = cc
+no_copy t (Serve to service None) e a b is = cc
+no_copy t (Serve to service (Some from)) e a b is = cc
 
 pub no_copy_set : (t v : ℕ) (x : Line) → target x ≡ Some t → (a b : ℕ) → setting v x ≡ Copy a b → ⊥
 no_copy_set t v (Put to z) e a b is = cc
@@ -244,8 +244,8 @@ no_copy_set t v (Reload to slot access) e a b is = cc
 no_copy_set t v (Spill slot from access) e a b is = cc
 no_copy_set t v (Cut cause) e a b is = cc
 no_copy_set t v (Call to i first count) e a b is = cc
-no_copy_set t v (GetChar to) e a b is = cc
-no_copy_set t v (PutChar to from) e a b is = cc
+no_copy_set t v (Serve to service None) e a b is = cc
+no_copy_set t v (Serve to service (Some from)) e a b is = cc
 
 -- ---- the line that passes the value on
 

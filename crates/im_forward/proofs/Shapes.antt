@@ -5,7 +5,7 @@ use Rattle.std.proofs.lemmas.List.Elements.{All-nil, All-cons, All-head, All-tai
 use Rattle.im_block.specs.declared.code.Place.{Place}
 use Rattle.im_block.specs.declared.code.Place.TheVariants.{Static, Local, Through}
 use Rattle.im_block.specs.declared.code.Line.{Line}
-use Rattle.im_block.specs.declared.code.Line.TheVariants.{Put, PutNull, Copy, Convert, Unary, Not, Compute, Compare, Move, Distance, Address, Read, Write, Reload, Spill, Cut, Call, GetChar, PutChar}
+use Rattle.im_block.specs.declared.code.Line.TheVariants.{Put, PutNull, Copy, Convert, Unary, Not, Compute, Compare, Move, Distance, Address, Read, Write, Reload, Spill, Cut, Call, Serve}
 use Rattle.im_block.specs.declared.code.Exit.{Exit}
 use Rattle.im_block.specs.declared.code.Exit.TheVariants.{Jump, Turn, Branch, Return}
 use Rattle.im_block.specs.declared.code.Block.{Block}
@@ -58,8 +58,8 @@ line_cost instead (Reload to slot access) = refl
 line_cost instead (Spill slot from access) = refl
 line_cost instead (Cut cause) = refl
 line_cost instead (Call to i first count) = refl
-line_cost instead (GetChar to) = refl
-line_cost instead (PutChar to from) = refl
+line_cost instead (Serve to service None) = refl
+line_cost instead (Serve to service (Some from)) = refl
 
 exit_same : (instead : ℕ → ℕ) (exit : Exit) → exit_cost (exit_using instead exit) ≡ exit_cost exit
 exit_same instead (Jump b) = refl
@@ -148,8 +148,8 @@ line_uncut instead (Reload to slot access) h e = h e
 line_uncut instead (Spill slot from access) h e = h e
 line_uncut instead (Cut cause) h e = h e
 line_uncut instead (Call to i first count) h e = h e
-line_uncut instead (GetChar to) h e = h e
-line_uncut instead (PutChar to from) h e = h e
+line_uncut instead (Serve to service None) h e = h e
+line_uncut instead (Serve to service (Some from)) h e = h e
 
 lines_uncut : (free : ℕ) (live : ℕ → ℕ → Bool) (a b : Exit) (before old new : List Line) → ForwardsLines free live a b before old new → All IsNoCut old → All IsNoCut new
 lines_uncut free live a b before old new (Ends gone e) h = All-nil IsNoCut
@@ -221,8 +221,8 @@ line_within n instead k (Reload to slot access) w = w
 line_within n instead k (Spill slot from access) w = k from w
 line_within n instead k (Cut cause) w = w
 line_within n instead k (Call to i first count) w = w
-line_within n instead k (GetChar to) w = w
-line_within n instead k (PutChar to from) w = (w.0, k from w.1)
+line_within n instead k (Serve to service None) w = w
+line_within n instead k (Serve to service (Some from)) w = (w.0, k from w.1)
 
 exit_within : (n : ℕ) (instead : ℕ → ℕ) → KeepsWithin n instead → (exit : Exit) → ExitWithin n exit → ExitWithin n (exit_using instead exit)
 exit_within n instead k (Jump b) w = w
@@ -256,8 +256,8 @@ line_there fs instead (Reload to slot access) h = h
 line_there fs instead (Spill slot from access) h = h
 line_there fs instead (Cut cause) h = h
 line_there fs instead (Call to i first count) h = h
-line_there fs instead (GetChar to) h = h
-line_there fs instead (PutChar to from) h = h
+line_there fs instead (Serve to service None) h = h
+line_there fs instead (Serve to service (Some from)) h = h
 
 line_accesses : (instead : ℕ → ℕ) (line : Line) → accesses_of_line (line_using instead line) ≡ accesses_of_line line
 line_accesses instead (Put to z) = refl
@@ -277,8 +277,8 @@ line_accesses instead (Reload to slot access) = refl
 line_accesses instead (Spill slot from access) = refl
 line_accesses instead (Cut cause) = refl
 line_accesses instead (Call to i first count) = refl
-line_accesses instead (GetChar to) = refl
-line_accesses instead (PutChar to from) = refl
+line_accesses instead (Serve to service None) = refl
+line_accesses instead (Serve to service (Some from)) = refl
 
 -- lines, and the exit behind them
 
@@ -383,8 +383,8 @@ module _ (fs gs : List Function) (all : OnceFunctions fs gs) where
   called (Spill slot from access) h = h
   called (Cut cause) h = h
   called (Call to i first count) h = takes_kept (slice_get fs i) (slice_get gs i) count (both_functions fs gs i all) h
-  called (GetChar to) h = h
-  called (PutChar to from) h = h
+  called (Serve to service None) h = h
+  called (Serve to service (Some from)) h = h
 
   all_called : (lines : List Line) → All (LineThere fs) lines → All (LineThere gs) lines
   all_called [] h = All-nil (LineThere gs)

@@ -9,16 +9,17 @@ use Rattle.im_store.specs.Checks.{Checked, Fine, Bad, then_}
 use Rattle.im_store.specs.Objects.{Value, Number, Null, Unset}
 use Rattle.im_store.specs.Access.{read_cell, write_cell}
 use Rattle.im_store.specs.Outcomes.{Outcome}
+use Rattle.im_serve.specs.Services.{serve}
 use Rattle.im_block.specs.declared.code.Place.{Place}
 use Rattle.im_block.specs.declared.code.Place.TheVariants.{Static, Local, Through}
 use Rattle.im_block.specs.declared.code.Line.{Line}
-use Rattle.im_block.specs.declared.code.Line.TheVariants.{Put, PutNull, Copy, Convert, Unary, Not, Compute, Compare, Move, Distance, Address, Read, Write, Reload, Spill, Cut, Call, GetChar, PutChar}
+use Rattle.im_block.specs.declared.code.Line.TheVariants.{Put, PutNull, Copy, Convert, Unary, Not, Compute, Compare, Move, Distance, Address, Read, Write, Reload, Spill, Cut, Call, Serve}
 use Rattle.im_block.specs.declared.code.Exit.{Exit}
 use Rattle.im_block.specs.declared.code.Exit.TheVariants.{Jump, Turn, Branch, Return}
 use Rattle.im_block.specs.declared.code.Block.{Block}
 use Rattle.im_block.specs.declared.unit.Function.{Function}
 use Rattle.im_block.specs.declared.unit.Unit.{Unit as Code}
-use Rattle.im_block.specs.Meaning.{Setting, Site, site_of, slot_site, Event, Reads, Tests, Serves, Frame, State, Next, Goes, Stops, Found, Left, Location, on_checked, takes, found, found_in, left_in, stored, kept, kept_by, with_rest, with_register, sets as sets_register, computes, reads, writes, activates, waiting, passed, enters, served, gets, does, goes_to, back, leaves, step_at, step, number_of, as_number, as_truth, converted, computed, computed_one, condition, negation, compared, moved, distance_of, place_of, further, location_of, write_place, write_slot, slot_of, next_active, ended}
+use Rattle.im_block.specs.Meaning.{Setting, Site, site_of, slot_site, Event, Reads, Tests, Serves, Frame, State, Next, Goes, Stops, Found, Left, Location, on_checked, takes, found, found_in, left_in, stored, kept, kept_by, with_rest, with_register, sets as sets_register, computes, reads, writes, activates, waiting, passed, enters, served, does, goes_to, back, leaves, step_at, step, number_of, as_number, as_truth, converted, computed, computed_one, condition, negation, compared, moved, distance_of, place_of, further, location_of, write_place, write_slot, slot_of, next_active, ended}
 use Rattle.im_block.specs.Runs.{start, before, Over, goes_on, exec, Runs}
 use Rattle.im_alloc_placed.specs.Placeable.{first_free}
 use Rattle.im_alloc_relation.specs.Live.{place_uses, uses, sets, exit_lives, lives}
@@ -318,10 +319,6 @@ module _ (u w : Code) (g : Setting) (all : OnceFunctions u.functions.items w.fun
             refl,
           ))
 
-      gets_sim : (to : ℕ) (input : List ℕ) (fuel : ℕ) → ((q : ℕ) → sets x q ≡ (q == to)) → ((q : ℕ) → sets y q ≡ (q == to)) → ((a b : ℕ) → x ≡ Copy a b → ⊥) → NextSim (gets u g to old input fuel s) (gets v g to new input fuel t)
-      gets_sim to [] fuel sx sy none = served_sim to (Number (negsuc 0)) [] s.output fuel sx sy none
-      gets_sim to (byte ∷ input) fuel sx sy none = served_sim to (Number (pos byte)) input s.output fuel sx sy none
-
       -- a caller
       wait_ok : (to : ℕ) → ((q : ℕ) → sets x q ≡ (q == to)) → ((q : ℕ) → sets y q ≡ (q == to)) → ((a b : ℕ) → x ≡ Copy a b → ⊥) → WaitOk (waiting u g s.frame to old) (waiting v g t.frame to new)
       wait_ok to sx sy none = record {
@@ -446,15 +443,16 @@ module _ (u w : Code) (g : Setting) (all : OnceFunctions u.functions.items w.fun
           enters_sim s (waiting u g s.frame to old ∷ s.callers) regs registers here leaving registers (waiting v g t.frame to new ∷ callers) i first count fuel
           (λ j lt. alike (first + j) (used_lives same.live (Call to i first count) new leaving (first + j) (argument first count j lt)))
           (wait_ok (Call to i first count) (Call to i first count) old new left alike to (λ q. refl) (λ q. refl) (λ a b is. cc), waits))
-      does_sim (GetChar to) old new left alike =
-          takes_sim s.fuel s.output _ _ (λ fuel. gets_sim (GetChar to) (GetChar to) old new left alike to s.input fuel (λ q. refl) (λ q. refl) (λ a b is. cc))
-      does_sim (PutChar to from) old new left alike =
-          let y : Line = PutChar to (instead from) in
+      does_sim (Serve to service None) old new left alike =
+          takes_sim s.fuel s.output _ _ (λ fuel.
+          let reply = serve service g.capacity (pos 0) s.input s.output in
+          served_sim (Serve to service None) (Serve to service None) old new left alike to (Number reply.value) reply.input reply.output fuel (λ q. refl) (λ q. refl) (λ a b is. cc))
+      does_sim (Serve to service (Some from)) old new left alike =
+          let y : Line = Serve to service (Some (instead from)) in
           takes_sim s.fuel s.output _ _ (λ fuel.
           checked_sim (number_of (regs from)) (number_of (registers (instead from))) _ _ (ap number_of (used y new alike from (itself (instead from)))) (λ z.
-          either_sim (nat_lt (length s.output) g.capacity) _ _ _ _
-          (served_sim (PutChar to from) y old new left alike to (Number (pos (nat_abs (wrap U8 z)))) s.input (s.output ++ nat_abs (wrap U8 z) ∷ []) fuel (λ q. refl) (λ q. refl) (λ a b is. cc))
-          (served_sim (PutChar to from) y old new left alike to (Number (negsuc 0)) s.input s.output fuel (λ q. refl) (λ q. refl) (λ a b is. cc))))
+          let reply = serve service g.capacity z s.input s.output in
+          served_sim (Serve to service (Some from)) y old new left alike to (Number reply.value) reply.input reply.output fuel (λ q. refl) (λ q. refl) (λ a b is. cc)))
 
     -- ---- a line, and the next, which passes on what it set
 
@@ -607,8 +605,8 @@ module _ (u w : Code) (g : Setting) (all : OnceFunctions u.functions.items w.fun
     straight_sim (Spill slot from access) y to v' old new pair left alike = absurd (let none = pair.sets in cc)
     straight_sim (Cut cause) y to v' old new pair left alike = absurd (let none = pair.sets in cc)
     straight_sim (Call r i first count) y to v' old new pair left alike = absurd (let none = pair.sets in cc)
-    straight_sim (GetChar r) y to v' old new pair left alike = absurd (let none = pair.sets in cc)
-    straight_sim (PutChar r from) y to v' old new pair left alike = absurd (let none = pair.sets in cc)
+    straight_sim (Serve r service None) y to v' old new pair left alike = absurd (let none = pair.sets in cc)
+    straight_sim (Serve r service (Some from)) y to v' old new pair left alike = absurd (let none = pair.sets in cc)
 
     -- ---- the exit
 

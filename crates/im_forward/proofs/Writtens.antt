@@ -4,7 +4,7 @@ use Rattle.std.specs.Prelude.{◌==◌, ◌&&◌, ◌||◌, not, slice_get}
 use Rattle.im_block.specs.declared.code.Place.{Place}
 use Rattle.im_block.specs.declared.code.Place.TheVariants.{Static, Local, Through}
 use Rattle.im_block.specs.declared.code.Line.{Line}
-use Rattle.im_block.specs.declared.code.Line.TheVariants.{Put, PutNull, Copy, Convert, Unary, Not, Compute, Compare, Move, Distance, Address, Read, Write, Reload, Spill, Cut, Call, GetChar, PutChar}
+use Rattle.im_block.specs.declared.code.Line.TheVariants.{Put, PutNull, Copy, Convert, Unary, Not, Compute, Compare, Move, Distance, Address, Read, Write, Reload, Spill, Cut, Call, Serve}
 use Rattle.im_block.specs.declared.code.Exit.{Exit}
 use Rattle.im_block.specs.declared.code.Exit.TheVariants.{Jump, Turn, Branch, Return}
 use Rattle.im_block.specs.declared.code.Block.{Block}
@@ -81,7 +81,7 @@ module _ (before : List Line) (instead : ℕ → ℕ) (same : (v : ℕ) → IsSa
     | inr y ↦ elim (one_used from y) [ inl k ↦ inl (or_right (place_uses place v) (v == from) k) | inr s ↦ inr s ]
   ]
   line_used (Spill slot from access) e = one_used from e
-  line_used (PutChar to from) e = one_used from e
+  line_used (Serve to service (Some from)) e = one_used from e
   line_used line e = inl e
 
   exit_used : (live : ℕ → ℕ → Bool) (exit : Exit) → exit_lives live (exit_using instead exit) v ≡ true → (exit_lives live exit v ≡ true) ⊎ IsSource before v
@@ -119,8 +119,8 @@ line_sets instead (Reload to slot access) v = refl
 line_sets instead (Spill slot from access) v = refl
 line_sets instead (Cut cause) v = refl
 line_sets instead (Call to i first count) v = refl
-line_sets instead (GetChar to) v = refl
-line_sets instead (PutChar to from) v = refl
+line_sets instead (Serve to service None) v = refl
+line_sets instead (Serve to service (Some from)) v = refl
 
 -- ---- a block
 

@@ -5,7 +5,7 @@ use Rattle.std.specs.Prelude.{◌≡◌, ◌≤◌, ◌⊎◌, ℕ, Bool, true, 
 use Rattle.im_block.specs.declared.code.Place.{Place}
 use Rattle.im_block.specs.declared.code.Place.TheVariants.{Static, Local, Through}
 use Rattle.im_block.specs.declared.code.Line.{Line}
-use Rattle.im_block.specs.declared.code.Line.TheVariants.{Copy, Convert, Unary, Not, Compute, Compare, Move, Distance, Address, Read, Write, Spill, PutChar}
+use Rattle.im_block.specs.declared.code.Line.TheVariants.{Copy, Convert, Unary, Not, Compute, Compare, Move, Distance, Address, Read, Write, Spill, Serve}
 use Rattle.im_block.specs.declared.code.Exit.{Exit}
 use Rattle.im_block.specs.declared.code.Exit.TheVariants.{Jump, Turn, Branch, Return}
 use Rattle.im_block.specs.declared.code.Block.{Block}
@@ -37,7 +37,7 @@ line_using instead (Address to place) = Address to (place_using instead place)
 line_using instead (Read to place kind access) = Read to (place_using instead place) kind access
 line_using instead (Write place kind from access) = Write (place_using instead place) kind (instead from) access
 line_using instead (Spill slot from access) = Spill slot (instead from) access
-line_using instead (PutChar to from) = PutChar to (instead from)
+line_using instead (Serve to service (Some from)) = Serve to service (Some (instead from))
 line_using instead line = line
 
 abbrev pub exit_using : (ℕ → ℕ) → Exit → Exit

@@ -48,8 +48,7 @@ pub(crate) fn set_by(line: Line) -> Option<u32>
         | Line::Read { to, .. }
         | Line::Reload { to, .. }
         | Line::Call { to, .. }
-        | Line::GetChar { to }
-        | Line::PutChar { to, .. } => Some(to),
+        | Line::Serve { to, .. } => Some(to),
         Line::Write { .. } | Line::Spill { .. } | Line::Cut(_) => None,
     }
 }

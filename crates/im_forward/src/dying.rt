@@ -30,13 +30,13 @@ fn reads(line: Line, register: u32) -> bool
         | Line::PutNull { .. }
         | Line::Reload { .. }
         | Line::Cut(_)
-        | Line::GetChar { .. } => false,
+        | Line::Serve { from: None, .. } => false,
         Line::Copy { from, .. }
         | Line::Convert { from, .. }
         | Line::Unary { from, .. }
         | Line::Not { from, .. }
         | Line::Spill { from, .. }
-        | Line::PutChar { from, .. } => register == from,
+        | Line::Serve { from: Some(from), .. } => register == from,
         Line::Compute { left, right, .. }
         | Line::Compare { left, right, .. }
         | Line::Distance { left, right, .. } => register == left || register == right,

@@ -29,8 +29,7 @@ pub(crate) fn target_of(line: Line) -> Option<u32>
         | Line::Spill { .. }
         | Line::Cut(_)
         | Line::Call { .. }
-        | Line::GetChar { .. }
-        | Line::PutChar { .. } => None,
+        | Line::Serve { .. } => None,
     }
 }
 
@@ -56,8 +55,7 @@ pub(crate) fn set_in(register: u32, mut line: Line) -> Line
         | Line::Spill { .. }
         | Line::Cut(_)
         | Line::Call { .. }
-        | Line::GetChar { .. }
-        | Line::PutChar { .. } => {}
+        | Line::Serve { .. } => {}
     }
     line
 }

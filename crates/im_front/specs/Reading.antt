@@ -11,10 +11,10 @@ use Rattle.im_parse.specs.declared.text.ParseFault.{ParseFault}
 use Rattle.im_parse.specs.declared.text.ParseFault.TheVariants as unit
 use Rattle.im_parse.specs.Spelling.{IsParsedText}
 use Rattle.im_fault.specs.declared.fault.LineFault.{LineFault}
-use Rattle.im_fault.specs.declared.fault.LineFault.TheVariants.{BadByte, OpenComment, OpenLiteral, BadEscape, BadNumber, BadDirective, Syntax, Nesting, Rule}
+use Rattle.im_fault.specs.declared.fault.LineFault.TheVariants.{BadByte, OpenComment, OpenLiteral, BadEscape, BadNumber, BadDirective, Syntax, Nesting, Links, Rule}
 use Rattle.im_fault.specs.declared.fault.Place.{Place}
 use Rattle.im_fault.specs.declared.fault.Quantity.{Quantity}
-use Rattle.im_fault.specs.declared.fault.Quantity.TheVariants.{Source, Parameters, Size, Statics, Frame, Code}
+use Rattle.im_fault.specs.declared.fault.Quantity.TheVariants.{Source, Parameters, Size, Statics, Frame, Code, Derivations}
 use Rattle.im_fault.specs.declared.fault.SourceFault.{SourceFault}
 use Rattle.im_fault.specs.declared.fault.SourceFault.TheVariants.{Line, Limit, OutOfMemory}
 use Rattle.im_fault.specs.Texts.{limit_of}
@@ -79,6 +79,7 @@ IsWrong source place BadEscape = IsNoToken source place BadEscape
 IsWrong source place BadNumber = IsNoToken source place BadNumber
 IsWrong source place BadDirective = IsNoToken source place BadDirective
 IsWrong source place Nesting = IsRefusedAt source place unit.Depth
+IsWrong source place Links = IsRefusedAt source place unit.Links
 IsWrong source place Syntax = IsRefusedAt source place unit.Syntax
 IsWrong source place (Rule number) = ⊥
 
@@ -89,6 +90,7 @@ IsOver source Size count = ⊥
 IsOver source Statics count = ⊥
 IsOver source Frame count = ⊥
 IsOver source Code count = ⊥
+IsOver source Derivations count = ⊥
 
 -- the tree that the tokens of the source spell, and where these stand
 pub record IsTextOf (source : List ℕ) (text : Text) : Type 0 where

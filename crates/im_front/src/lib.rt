@@ -3,7 +3,6 @@
 
 mod laws;
 mod reading;
-mod runs;
 
 pub use laws::one_word_law;
 pub use reading::{Text, place_of, read_source};

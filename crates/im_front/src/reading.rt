@@ -2,7 +2,6 @@ ghost use Rattle.std.specs.Prelude.{◌≡◌, ◌<◌, ◌^◌, length, IfOk, M
 ghost use Rattle.im_lex.specs.Lexing.{line_at};
 ghost use Rattle.im_front.specs.Reading.{IsRead, IsTokenFault, AreTokens, of_token, token_spans, place_at, place_among};
 
-use crate::runs::may_outgrow_stack;
 use im_ctree::Tree;
 use im_fault::{LineFault, Place, Quantity, SourceFault};
 use im_lex::{LexFault, LexFaultKind, lex};
@@ -99,8 +98,7 @@ fn lexed(alloc: Global, source: &[u8]) -> Result<Vec<Token>, SourceFault>
 }
 
 /// The tree of a source (C11 6.4, 6.9) and where its tokens stand, or why it has none: its length is looked at
-/// first, then its tokens, their nesting, and the unit. A tree that would go further down than the
-/// stack surely has room for is answered by want of memory.
+/// first, then its tokens, their nesting, and the unit, or their links where these pass their limit first.
 pub fn read_source(alloc: Global, source: &[u8]) -> Result<Text, SourceFault>
     ensures { IsRead source.now result }
 {
@@ -111,10 +109,6 @@ pub fn read_source(alloc: Global, source: &[u8]) -> Result<Text, SourceFault>
         });
     }
     let tokens = lexed(alloc, source)?;
-    match may_outgrow_stack(alloc, source, &tokens) {
-        Ok(false) => {}
-        Ok(true) | Err(_) => return Err(SourceFault::OutOfMemory),
-    }
     let Ok(spans) = spans_of(alloc, &tokens) else {
         return Err(SourceFault::OutOfMemory);
     };
@@ -123,6 +117,10 @@ pub fn read_source(alloc: Global, source: &[u8]) -> Result<Text, SourceFault>
         Err(ParseFault::Depth(number)) => Err(SourceFault::Line {
             place: place_of(source, &spans, number),
             why: LineFault::Nesting,
+        }),
+        Err(ParseFault::Links(number)) => Err(SourceFault::Line {
+            place: place_of(source, &spans, number),
+            why: LineFault::Links,
         }),
         Err(ParseFault::Syntax(number)) => Err(SourceFault::Line {
             place: place_of(source, &spans, number),

@@ -19,8 +19,9 @@ use Rattle.im_rv.specs.Lines.{CodeLine, plain_line}
 use Rattle.im_rv_reach.specs.Instructions.{with_immediate, on_registers, storing}
 use Rattle.im_rtlib.specs.Routines.{getchar_label, putchar_label, stack_label}
 use Rattle.im_store.specs.Objects.{Name}
+use Rattle.im_serve.specs.declared.service.Service.TheVariants.{Getchar, Putchar}
 use Rattle.im_block.specs.declared.code.Line.{Line}
-use Rattle.im_block.specs.declared.code.Line.TheVariants.{Cut, Call, GetChar, PutChar}
+use Rattle.im_block.specs.declared.code.Line.TheVariants.{Cut, Call, Serve}
 use Rattle.im_block.specs.declared.code.Exit.{Exit}
 use Rattle.im_block.specs.declared.code.Exit.TheVariants.{Jump, Turn, Branch, Return}
 use Rattle.im_block.specs.declared.code.Block.{Block}
@@ -124,8 +125,8 @@ starts_left live (line ∷ lines) tail exit taken t s = s
 calls_left : (live : ℕ → ℕ → Bool) (lines tail : List Line) (exit : Exit) (taken : Option Test) → IsTaken live tail exit taken → CutAfterCalls (lines ++ tail) → CutAfterCalls lines
 calls_left live [] tail exit taken t c = tt
 calls_left live (Call to i start given ∷ lines) tail exit taken t c = (starts_left live lines tail exit taken t c.0, calls_left live lines tail exit taken t c.1)
-calls_left live (GetChar to ∷ lines) tail exit taken t c = (starts_left live lines tail exit taken t c.0, calls_left live lines tail exit taken t c.1)
-calls_left live (PutChar to from ∷ lines) tail exit taken t c = (starts_left live lines tail exit taken t c.0, calls_left live lines tail exit taken t c.1)
+calls_left live (Serve to service None ∷ lines) tail exit taken t c = (starts_left live lines tail exit taken t c.0, calls_left live lines tail exit taken t c.1)
+calls_left live (Serve to service (Some from) ∷ lines) tail exit taken t c = (starts_left live lines tail exit taken t c.0, calls_left live lines tail exit taken t c.1)
 calls_left live (line ∷ lines) tail exit taken t c = calls_left live lines tail exit taken t c
 
 abbrev return_code : List CodeLine
@@ -267,8 +268,10 @@ module _ (at : ℕ → ℕ) (places : Name → ℕ) (m : ℕ → ℕ → ℕ) (o
   lines_most n j [] tail exit behind h c = h
   lines_most n j (Cut cause ∷ lines) tail exit behind h c = omega arith
   lines_most n j (Call to i start given ∷ lines) tail exit behind h c = let e = callees.entries i (All-head (CallsBelow functions) (Call to i start given) lines c) in omega arith
-  lines_most n j (GetChar to ∷ lines) tail exit behind h c = let e = callees.gets in omega arith
-  lines_most n j (PutChar to from ∷ lines) tail exit behind h c = let e = callees.puts in omega arith
+  lines_most n j (Serve to Getchar None ∷ lines) tail exit behind h c = let e = callees.gets in omega arith
+  lines_most n j (Serve to Getchar (Some from) ∷ lines) tail exit behind h c = let e = callees.gets in omega arith
+  lines_most n j (Serve to Putchar None ∷ lines) tail exit behind h c = let e = callees.puts in omega arith
+  lines_most n j (Serve to Putchar (Some from) ∷ lines) tail exit behind h c = let e = callees.puts in omega arith
   lines_most n j (line ∷ lines) tail exit behind h c =
       work_most n j line lines (cost_on left (lines ++ tail) exit) behind tt (λ z. z)
       (lines_most n (suc j) lines tail exit behind h (All-tail (CallsBelow functions) line lines c))
@@ -280,11 +283,19 @@ module _ (at : ℕ → ℕ) (places : Name → ℕ) (m : ℕ → ℕ → ℕ) (o
       ranked_append at (call_code 1 (entry_label i)) (lines_code places n (suc j) lines) behind
       (jump_ranked 1 (entry_label i) (scan at (lines_code places n (suc j) lines) behind) (λ e. absurd (omega arith)) (omega arith) (λ e. (let s = starts n (suc j) lines behind k.0 in omega arith)))
       (lines_ranked n (suc j) lines behind o k.1)
-  lines_ranked n j (GetChar to ∷ lines) behind o k =
+  lines_ranked n j (Serve to Getchar None ∷ lines) behind o k =
       ranked_append at (call_code 1 getchar_label) (lines_code places n (suc j) lines) behind
       (jump_ranked 1 getchar_label (scan at (lines_code places n (suc j) lines) behind) (λ e. absurd (omega arith)) (omega arith) (λ e. (let s = starts n (suc j) lines behind k.0 in omega arith)))
       (lines_ranked n (suc j) lines behind o k.1)
-  lines_ranked n j (PutChar to from ∷ lines) behind o k =
+  lines_ranked n j (Serve to Getchar (Some from) ∷ lines) behind o k =
+      ranked_append at (call_code 1 getchar_label) (lines_code places n (suc j) lines) behind
+      (jump_ranked 1 getchar_label (scan at (lines_code places n (suc j) lines) behind) (λ e. absurd (omega arith)) (omega arith) (λ e. (let s = starts n (suc j) lines behind k.0 in omega arith)))
+      (lines_ranked n (suc j) lines behind o k.1)
+  lines_ranked n j (Serve to Putchar None ∷ lines) behind o k =
+      ranked_append at (call_code 1 putchar_label) (lines_code places n (suc j) lines) behind
+      (jump_ranked 1 putchar_label (scan at (lines_code places n (suc j) lines) behind) (λ e. absurd (omega arith)) (omega arith) (λ e. (let s = starts n (suc j) lines behind k.0 in omega arith)))
+      (lines_ranked n (suc j) lines behind o k.1)
+  lines_ranked n j (Serve to Putchar (Some from) ∷ lines) behind o k =
       ranked_append at (call_code 1 putchar_label) (lines_code places n (suc j) lines) behind
       (jump_ranked 1 putchar_label (scan at (lines_code places n (suc j) lines) behind) (λ e. absurd (omega arith)) (omega arith) (λ e. (let s = starts n (suc j) lines behind k.0 in omega arith)))
       (lines_ranked n (suc j) lines behind o k.1)
@@ -492,8 +503,10 @@ module _ (at : ℕ → ℕ) (places : Name → ℕ) (m : ℕ → ℕ → ℕ) (o
       one : (x : Line) → HasLittleLeft top (x ∷ (lines ++ tail)) exit → AreWithin at top (line_code places (n j) x) onward
       one (Cut cause) k = ((λ jumps cut. (let most = lines_most n (suc j) lines tail exit behind h later in let less = k [] cause (lines ++ tail) refl in omega arith)), tt)
       one (Call to i start given) k = jump_within top 1 (entry_label i) onward (λ e. absurd (omega arith))
-      one (GetChar to) k = jump_within top 1 getchar_label onward (λ e. absurd (omega arith))
-      one (PutChar to from) k = jump_within top 1 putchar_label onward (λ e. absurd (omega arith))
+      one (Serve to Getchar None) k = jump_within top 1 getchar_label onward (λ e. absurd (omega arith))
+      one (Serve to Getchar (Some from)) k = jump_within top 1 getchar_label onward (λ e. absurd (omega arith))
+      one (Serve to Putchar None) k = jump_within top 1 putchar_label onward (λ e. absurd (omega arith))
+      one (Serve to Putchar (Some from)) k = jump_within top 1 putchar_label onward (λ e. absurd (omega arith))
       one x k = plain_within at top (line_code places (n j) x) onward (work_plain places (n j) x tt)
 
   block_within : (top : ℕ) (next : Option ℕ) (b : ℕ) (block : Block) (behind : After) → BlockFacts functions left f b block → HasLittleLeft top block.lines.items block.exit → Meets at next behind → AreWithin at top (code_of next b block) behind

@@ -24,7 +24,7 @@ use Rattle.im_select_operators.specs.Tables.{operation, less_op, load_op, store_
 use Rattle.im_block.specs.declared.code.Place.{Place}
 use Rattle.im_block.specs.declared.code.Place.TheVariants.{Static, Local, Through}
 use Rattle.im_block.specs.declared.code.Line.{Line}
-use Rattle.im_block.specs.declared.code.Line.TheVariants.{Put, PutNull, Copy, Convert, Unary, Not, Compute, Compare, Move, Distance, Address, Read, Write, Reload, Spill, Cut, Call, GetChar, PutChar}
+use Rattle.im_block.specs.declared.code.Line.TheVariants.{Put, PutNull, Copy, Convert, Unary, Not, Compute, Compare, Move, Distance, Address, Read, Write, Reload, Spill, Cut, Call, Serve}
 use Rattle.im_block.specs.declared.code.Exit.{Exit}
 use Rattle.im_block.specs.declared.code.Exit.TheVariants.{Jump, Turn, Branch, Return}
 use Rattle.im_block.specs.declared.code.Block.{Block}
@@ -183,8 +183,8 @@ line_marked at m (Reload to slot access) = marked_append (displaced_code 2 (at (
 line_marked at m (Spill slot from access) = marked_append (displaced_code 2 (at (Slot slot))) _ (displaced_marked 2 (at (Slot slot))) (refl, tt)
 line_marked at m (Cut cause) = (refl, tt)
 line_marked at m (Call to i first count) = (refl, tt)
-line_marked at m (GetChar to) = (refl, tt)
-line_marked at m (PutChar to from) = (refl, tt)
+line_marked at m (Serve to service None) = (refl, tt)
+line_marked at m (Serve to service (Some from)) = (refl, tt)
 
 lines_marked : (at : Name → ℕ) (m : ℕ → ℕ) (j : ℕ) (lines : List Line) → AreMarked (lines_code at m j lines)
 lines_marked at m j [] = tt

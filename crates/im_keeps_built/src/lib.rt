@@ -1,4 +1,5 @@
-//! From what is built of a program to the theorem: whatever power does, the image keeps the program's meaning.
+//! From what is built of a program to the theorem: whatever power does, the image keeps the
+//! program's meaning.
 #![tactic(auto)]
 
 mod laws;

@@ -1,4 +1,5 @@
-//! A typed program as the source of the record of passes, and the lines of the passes from lowering to placing.
+//! A typed program as the source of the record of passes, and the lines of the passes from lowering
+//! to placing.
 #![tactic(auto)]
 
 mod laws;

@@ -1,6 +1,6 @@
 -- What placed code writes lies in a static or in the stack.
 use Rattle.std.proofs.Common.{◌≡◌, ℕ, zero, suc, ◌+◌, ◌≤◌, ◌⊎◌, inl, inr, Bool, true, false, cond, List, [], ◌∷◌, ◌++◌, length, Some, sym, ap, ◌∙◌, subst, refl, arith}
-use Rattle.std.specs.Prelude.{nat_lt, nat_le, slice_get}
+use Rattle.std.specs.Prelude.{nat_lt, nat_le, slice_get, None}
 use Rattle.im_num.specs.declared.kind.Kind.{Kind}
 use Rattle.im_num.specs.declared.kind.Kind.TheVariants.{U32}
 use Rattle.im_num.specs.Kinds.{kind_size}
@@ -11,13 +11,13 @@ use Rattle.im_store.specs.Objects.{Name, Named, Slot, Link, Object, Value, Numbe
 use Rattle.im_store.specs.Outcomes.{Outcome}
 use Rattle.im_store.specs.Statics.{static_shapes, with_statics}
 use Rattle.im_block.specs.declared.code.Line.{Line}
-use Rattle.im_block.specs.declared.code.Line.TheVariants.{Put, PutNull, Copy, Convert, Unary, Not, Compute, Compare, Move, Distance, Address, Read, Write, Reload, Spill, Cut, Call, GetChar, PutChar}
+use Rattle.im_block.specs.declared.code.Line.TheVariants.{Put, PutNull, Copy, Convert, Unary, Not, Compute, Compare, Move, Distance, Address, Read, Write, Reload, Spill, Cut, Call, Serve}
 use Rattle.im_block.specs.declared.code.Exit.{Exit}
 use Rattle.im_block.specs.declared.code.Exit.TheVariants.{Jump, Turn, Branch, Return}
 use Rattle.im_block.specs.declared.code.Block.{Block}
 use Rattle.im_block.specs.declared.unit.Function.{Function}
 use Rattle.im_block.specs.declared.unit.Unit.{Unit as Code}
-use Rattle.im_block.specs.Meaning.{Setting, Site, site_of, slot_site, object_of, Found, Left, link_shape, slot_of, statics_of, Frame, State, Next, Goes, Stops, Event, Reads, Writes, Tests, Saves, Restores, Serves, Cuts, on_checked, takes, found, computes, reads, writes, read_place, write_place, read_slot, write_slot, number_of, condition, returned, next_active, enters, gets, does, back, goes_to, leaves, step_at, step}
+use Rattle.im_block.specs.Meaning.{Setting, Site, site_of, slot_site, object_of, Found, Left, link_shape, slot_of, statics_of, Frame, State, Next, Goes, Stops, Event, Reads, Writes, Tests, Saves, Restores, Serves, Cuts, on_checked, takes, found, computes, reads, writes, read_place, write_place, read_slot, write_slot, number_of, condition, returned, next_active, enters, does, back, goes_to, leaves, step_at, step}
 use Rattle.im_block.specs.Runs.{Over, At, goes_on, exec, Runs, before, start}
 use Rattle.im_block.specs.Shape.{spot_weight}
 use Rattle.im_block.specs.Wellformed.{IsWellFormed}
@@ -28,7 +28,7 @@ use Rattle.im_select_relation.proofs.Mapped.{Mark, marks, InFrames, Mapped, Cell
 use Rattle.im_select_relation.proofs.Checks.{write_place_fine, write_slot_fine}
 use Rattle.im_select_relation.proofs.Shapes.{Premises, function_cells, static_cells}
 use Rattle.im_select_relation.proofs.Relation.{SlotsShaped, Ordered, AllLinked}
-use Rattle.im_select_relation.proofs.Stood.{Stood, Shaded, Waits, Brings}
+use Rattle.im_select_relation.proofs.Stood.{Stood, Shaded, Waits, Bears, Brings}
 use Rattle.im_select_relation.proofs.Steps.{static_lies, stood_brings, begin_brings, over_is}
 
 -- n bytes from a on lie in the static of this number
@@ -79,6 +79,7 @@ record Here (p : Linking) (u : Code) (g : Setting) (s : State) : Type 0 where
 here_of : (p : Linking) (u : Code) (g : Setting) (s : State) (c : Cpu) (m : Mem) → Stood p u g s c m → Here p u g s
 here_of p u g s c m (Shaded s' c' m' registers alike r) = record { mapped = r.mapped; ordered = r.ordered; linked = r.linked; slots = r.slots; statics = r.statics }
 here_of p u g s c m (Waits s' c' m' w) = let r = w.rel in record { mapped = r.mapped; ordered = r.ordered; linked = r.linked; slots = r.slots; statics = r.statics }
+here_of p u g s c m (Bears s' c' m' w) = let r = w.rel in record { mapped = r.mapped; ordered = r.ordered; linked = r.linked; slots = r.slots; statics = r.statics }
 
 -- bytes of a live object
 live_held : (p : Linking) (u : Code) (g : Setting) (s : State) → Here p u g s → (o : Object) (sh : Shape) (i n : ℕ) → s.store.shape o ≡ Some sh → i + n ≤ sh.size → IsHeld p u g (address p o + i) n
@@ -144,10 +145,6 @@ module _ (p : Linking) (u : Code) (g : Setting) where
       checked_held {A = Block} (found (slice_get f.blocks.items f.entry)) _ k2 (λ block found0 k3. (link_held _ k3, tt)))
       (λ k2. tt))
 
-  gets_held : (s : State) (to : ℕ) (rest : List Line) (input : List ℕ) (fuel : ℕ) → HeldNext (gets u g to rest input fuel s)
-  gets_held s to rest [] fuel = tt
-  gets_held s to rest (byte ∷ input) fuel = tt
-
   does_held : (s : State) (line : Line) (rest : List Line) → Here p u g s → Known (does u g line rest s) → HeldNext (does u g line rest s)
   does_held s (Put to z) rest h k = computes_held s to (Fine (Number z)) rest k
   does_held s (PutNull to) rest h k = computes_held s to (Fine Null) rest k
@@ -170,10 +167,9 @@ module _ (p : Linking) (u : Code) (g : Setting) where
       (λ l e. (write_slot_fine p (slot_of slot s.frame.active) (s.frame.registers from) s.store l (λ sh q. h.slots (object_of s.frame.active (Slot slot)) slot sh refl q) refl e).1.cell) k
   does_held s (Cut cause) rest h k = tt
   does_held s (Call to i first count) rest h k = takes_held s.fuel s.output _ k (λ less k1. enters_held s i first count less s.frame.registers _ k1)
-  does_held s (GetChar to) rest h k = takes_held s.fuel s.output _ k (λ less k1. gets_held s to rest s.input less)
-  does_held s (PutChar to from) rest h k = takes_held s.fuel s.output _ k (λ less k1.
-      checked_held (number_of (s.frame.registers from)) _ k1 (λ z e k2.
-      cond_held (nat_lt (length s.output) g.capacity) _ _ k2 (λ k3. tt) (λ k3. tt)))
+  does_held s (Serve to service None) rest h k = takes_held s.fuel s.output _ k (λ less k1. tt)
+  does_held s (Serve to service (Some from)) rest h k = takes_held s.fuel s.output _ k (λ less k1.
+      checked_held (number_of (s.frame.registers from)) _ k1 (λ z e k2. tt))
 
   to_held : (s : State) (b fuel : ℕ) → Known (goes_to u g b fuel s) → HeldNext (goes_to u g b fuel s)
   to_held s b fuel k =

@@ -3,7 +3,7 @@ use Rattle.std.specs.Prelude.{◌≡◌, ◌<◌, ℕ, zero, suc, ◌==◌, ◌&
 use Rattle.im_block.specs.declared.code.Place.{Place}
 use Rattle.im_block.specs.declared.code.Place.TheVariants.{Static, Local, Through}
 use Rattle.im_block.specs.declared.code.Line.{Line}
-use Rattle.im_block.specs.declared.code.Line.TheVariants.{Address, Read, Write, Reload, Spill, Call, GetChar, PutChar}
+use Rattle.im_block.specs.declared.code.Line.TheVariants.{Address, Read, Write, Reload, Spill, Call, Serve}
 use Rattle.im_block.specs.declared.code.Exit.{Exit}
 use Rattle.im_block.specs.declared.code.Exit.TheVariants.{Jump, Turn, Branch, Return}
 use Rattle.im_block.specs.declared.code.Block.{Block}
@@ -23,8 +23,7 @@ reads_stack (Write place kind from access) = in_frame place
 reads_stack (Reload to slot access) = true
 reads_stack (Spill slot from access) = true
 reads_stack (Call to i first count) = true
-reads_stack (GetChar to) = true
-reads_stack (PutChar to from) = true
+reads_stack (Serve to service from) = true
 reads_stack line = false
 
 abbrev pub reads : Line → ℕ → Bool
@@ -36,8 +35,7 @@ called r = r == 1 || nat_le 5 r
 
 abbrev pub writes : Line → ℕ → Bool
 writes (Call to i first count) r = called r
-writes (GetChar to) r = called r
-writes (PutChar to from) r = called r
+writes (Serve to service from) r = called r
 writes line r = sets line r
 
 -- live b: what lives at the start of block b. A return reads the return address, the stack pointer and the result

@@ -4,7 +4,7 @@ use Rattle.std.specs.Int.{bit_at}
 use Rattle.im_block.specs.declared.code.Place.{Place}
 use Rattle.im_block.specs.declared.code.Place.TheVariants.{Static, Local, Through}
 use Rattle.im_block.specs.declared.code.Line.{Line}
-use Rattle.im_block.specs.declared.code.Line.TheVariants.{Put, PutNull, Copy, Convert, Unary, Not, Compute, Compare, Move, Distance, Address, Read, Write, Reload, Spill, Cut, Call, GetChar, PutChar}
+use Rattle.im_block.specs.declared.code.Line.TheVariants.{Put, PutNull, Copy, Convert, Unary, Not, Compute, Compare, Move, Distance, Address, Read, Write, Reload, Spill, Cut, Call, Serve}
 use Rattle.im_block.specs.declared.code.Exit.{Exit}
 use Rattle.im_block.specs.declared.code.Exit.TheVariants.{Jump, Turn, Branch, Return}
 use Rattle.im_block.specs.declared.code.Block.{Block}
@@ -80,8 +80,8 @@ IsMachineLine (Reload to slot access) = to < 32
 IsMachineLine (Spill slot from access) = from < 32
 IsMachineLine (Cut cause) = Unit {0}
 IsMachineLine (Call to i first count) = first + count < 32
-IsMachineLine (GetChar to) = Unit {0}
-IsMachineLine (PutChar to from) = from < 32
+IsMachineLine (Serve to service None) = Unit {0}
+IsMachineLine (Serve to service (Some from)) = from < 32
 
 abbrev pub IsMachineResult : Option ℕ → Type 0
 IsMachineResult None = Unit {0}

@@ -77,13 +77,16 @@ fn uses_of(line: Line) -> u32
         | Line::PutNull { .. }
         | Line::Reload { .. }
         | Line::Cut(_)
-        | Line::GetChar { .. } => 0,
+        | Line::Serve { from: None, .. } => 0,
         Line::Copy { from, .. }
         | Line::Convert { from, .. }
         | Line::Unary { from, .. }
         | Line::Not { from, .. }
         | Line::Spill { from, .. }
-        | Line::PutChar { from, .. } => one(from),
+        | Line::Serve {
+            from: Some(from),
+            ..
+        } => one(from),
         Line::Compute { left, right, .. }
         | Line::Compare { left, right, .. }
         | Line::Distance { left, right, .. } => two(left, right),
@@ -109,11 +112,7 @@ fn needs_stack(line: Line) -> bool
         Line::Address { place, .. } | Line::Read { place, .. } | Line::Write { place, .. } => {
             is_in_frame(place)
         }
-        Line::Reload { .. }
-        | Line::Spill { .. }
-        | Line::Call { .. }
-        | Line::GetChar { .. }
-        | Line::PutChar { .. } => true,
+        Line::Reload { .. } | Line::Spill { .. } | Line::Call { .. } | Line::Serve { .. } => true,
         _ => false,
     }
 }
@@ -139,8 +138,7 @@ fn writes_of(line: Line) -> u32
         | Line::Reload { to, .. } => one(to),
         Line::Write { .. } | Line::Spill { .. } | Line::Cut(_) => 0,
         Line::Call { .. } => CALLED,
-        Line::GetChar { .. } => CALLED,
-        Line::PutChar { .. } => CALLED,
+        Line::Serve { .. } => CALLED,
     }
 }
 

@@ -213,13 +213,17 @@ fn above_line(line: Line) -> Result<u32, NoMemory>
     match line {
         Line::Put { to, .. }
         | Line::PutNull { to }
-        | Line::GetChar { to }
+        | Line::Serve { to, from: None, .. }
         | Line::Reload { to, .. } => { next(to) }
         Line::Copy { to, from }
         | Line::Convert { to, from, .. }
         | Line::Unary { to, from, .. }
         | Line::Not { to, from }
-        | Line::PutChar { to, from } => Ok(next(to)?.max(next(from)?)),
+        | Line::Serve {
+            to,
+            from: Some(from),
+            ..
+        } => Ok(next(to)?.max(next(from)?)),
         Line::Compute {
             to,
             left,

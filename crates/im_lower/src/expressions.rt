@@ -75,11 +75,15 @@ pub(crate) fn lower_expression(
             number: *number,
         }),
         Expr::Null => code.put(Line::PutNull { to }),
-        Expr::Getchar => code.put(Line::GetChar { to }),
+        Expr::Serve(service, None) => code.put(Line::Serve {
+            to,
+            service: *service,
+            from: None,
+        }),
         Expr::Convert(_, operand)
         | Expr::Unary(_, _, operand)
         | Expr::Not(operand)
-        | Expr::Putchar(operand) => {
+        | Expr::Serve(_, Some(operand)) => {
             put_operator(code, expression, to, free)?;
             lower_expression(code, operand, free, above, prog, first)
         }

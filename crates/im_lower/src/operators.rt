@@ -33,7 +33,11 @@ pub(crate) fn put_operator(
             from: free,
         }),
         Expr::Not(_) => code.put(Line::Not { to, from: free }),
-        Expr::Putchar(_) => code.put(Line::PutChar { to, from: free }),
+        Expr::Serve(service, Some(_)) => code.put(Line::Serve {
+            to,
+            service: *service,
+            from: Some(free),
+        }),
         Expr::Binary(op, kind, _, _) => code.put(Line::Compute {
             to,
             op: *op,
@@ -70,7 +74,7 @@ pub(crate) fn put_operator(
         }),
         Expr::Number(_, _)
         | Expr::Null
-        | Expr::Getchar
+        | Expr::Serve(_, None)
         | Expr::Read(_, _)
         | Expr::Address(_)
         | Expr::And(_, _)

@@ -81,9 +81,8 @@ pub(crate) fn shape_of(expression: &Expr, prog: &Prog) -> Option<Access>
         | Expr::Compare(_, _, _, _)
         | Expr::Not(_)
         | Expr::And(_, _)
-        | Expr::Or(_, _)
-        | Expr::Getchar
-        | Expr::Putchar(_) => Some(Access::Scalar(Kind::I32)),
+        | Expr::Or(_, _) => Some(Access::Scalar(Kind::I32)),
+        Expr::Serve(service, _) => Some(Access::Scalar(service.gives())),
         Expr::Read(access, _) | Expr::Assign(access, _, _) | Expr::Part { access, .. } => {
             Some(*access)
         }

@@ -6,13 +6,14 @@ use Rattle.im_num.specs.declared.kind.Kind.{Kind}
 use Rattle.im_num.specs.declared.kind.Kind.TheVariants.{I8, U8, I16, U16, I32, U32, Ptr}
 use Rattle.im_num.specs.Kinds.{kind_size}
 use Rattle.std.specs.Option.{option_map}
+use Rattle.im_serve.specs.Services.{row, IsUnary}
 use Rattle.im_block.specs.declared.unit.Function.{Function}
 use Rattle.im_alloc_placed.specs.Operands.{IsPromoted, HasObject}
 use Rattle.im_ctype.specs.declared.cell.Cell.{Cell}
 use Rattle.im_typed.specs.declared.expression.Change.{Change}
 use Rattle.im_typed.specs.declared.expression.Change.TheVariants.{Number as NumberBy, Move as PointerBy}
 use Rattle.im_typed.specs.Program as p
-use Rattle.im_typed.specs.Typing.{Each, IsInteger, IsPromoted as TypedPromoted, IsCompared, IsElement, IsChange, IsStep, IsAccess, AreLaidOut, IsTyped, IsTypedPlace, AreArguments, IsTypedFunc, members_offset, parameters, result_shape, shape_of}
+use Rattle.im_typed.specs.Typing.{IsGiven, Each, IsInteger, IsPromoted as TypedPromoted, IsCompared, IsElement, IsChange, IsStep, IsAccess, AreLaidOut, IsTyped, IsTypedPlace, AreArguments, IsTypedFunc, members_offset, parameters, result_shape, shape_of}
 use Rattle.im_typed.specs.Values.{changed_kind}
 use Rattle.im_typed.specs.Counts.{place_nodes, expr_nodes, exprs_nodes, conversions_in}
 use Rattle.im_block.specs.declared.code.Place.{Place}
@@ -25,7 +26,7 @@ use Rattle.im_lower_plain.specs.Make.{place_at, behind, part_offset, known_made,
 use Rattle.im_lower_plain.proofs.Growth.{Grows, stays, grows_start, close_length}
 use Rattle.im_lower_plain.proofs.Grown.{grows}
 use Rattle.im_lower_laws.proofs.Steps.{Step, at_most, step_close, step_start}
-use Rattle.im_lower_laws.proofs.LineSteps.{Good_register, GoodPlace, GoodChange, place_offset, further_good, through_good, adds_put, adds_null, adds_getchar, adds_convert, adds_unary, adds_not, adds_putchar, adds_compute, adds_compare, adds_move, adds_distance, adds_address, adds_call, adds_read, adds_write, adds_load, adds_reads, adds_writes, adds_change, adds_increment}
+use Rattle.im_lower_laws.proofs.LineSteps.{Good_register, GoodPlace, GoodChange, place_offset, further_good, through_good, adds_put, adds_null, adds_service, adds_convert, adds_unary, adds_not, adds_service_of, adds_compute, adds_compare, adds_move, adds_distance, adds_address, adds_call, adds_read, adds_write, adds_load, adds_reads, adds_writes, adds_change, adds_increment}
 
 pub nodes_positive : (e : p.Expr) → 1 ≤ expr_nodes e
 nodes_positive (p.Constant kind z) = omega arith
@@ -50,8 +51,8 @@ nodes_positive (p.Update a change e) = omega arith
 nodes_positive (p.Increment a change old) = omega arith
 nodes_positive (p.Part from x e) = omega arith
 nodes_positive (p.Call n es) = omega arith
-nodes_positive p.Getchar = omega arith
-nodes_positive (p.Putchar e) = omega arith
+nodes_positive (p.Serve service p.no_argument) = omega arith
+nodes_positive (p.Serve service (p.an_argument e)) = omega arith
 
 place_positive : (a : p.Place) → 1 ≤ place_nodes a
 place_positive (p.Static n) = omega arith
@@ -172,6 +173,11 @@ offset_near [] from h = omega arith
 offset_near (c ∷ cs) zero h = h.0
 offset_near (c ∷ cs) (suc from) h = offset_near cs from h.1
 
+-- an argument is there where a service has a parameter
+is-unary : (p : Option Kind) (shape : Option Access) → IsGiven p shape → IsUnary p
+is-unary None shape h = h
+is-unary (Some kind) shape h = tt
+
 module _ (g : p.Prog) (f : p.Func) (code : Function) (first low limit : ℕ) (premises : Premises g) (objects : HasObjects f code first) where
   as_many : (os : List p.LocalObject) (es : p.Exprs) → AreArguments g f os es → length os ≡ count_of es
   as_many [] p.no_exprs h = refl
@@ -241,8 +247,8 @@ module _ (g : p.Prog) (f : p.Func) (code : Function) (first low limit : ℕ) (pr
   shape_near (p.Increment a change old) ty = tt
   shape_near (p.Part from x e) ty = access_near x ty.0
   shape_near (p.Call n es) ty = callee_near (slice_get g.funcs n)
-  shape_near p.Getchar ty = tt
-  shape_near (p.Putchar e) ty = tt
+  shape_near (p.Serve service p.no_argument) ty = tt
+  shape_near (p.Serve service (p.an_argument e)) ty = tt
 
   part_near : (from : ℕ) (e : p.Expr) → IsTyped g f e → part_offset g from e ≤ 2097152
   part_near from e ty = let near = offset_near (cells_of_shape (shape_of g e)) from (shape_near e ty) in omega arith
@@ -481,13 +487,13 @@ module _ (g : p.Prog) (f : p.Func) (code : Function) (first low limit : ℕ) (pr
         at_most g code low limit (c + 64 * (1 + exprs_nodes es)) t (omega arith) (omega arith)
         (arguments_add (parameters (slice_get g.funcs k)) es ty.1 (c + (7 + 4 * count_of es)) t m _ free lf (omega arith)
         (adds_call g code low limit to k free (count_of es) (register to lt t1) lf (omega arith) facts.few facts.takes h))
-    adds p.Getchar ty c t m n to free lt lf t1 le h =
-        at_most g code low limit (c + 64 * 1) t (omega arith) (omega arith) (adds_getchar g code low limit to (register to lt t1) h)
-    adds (p.Putchar e) ty c t m n to free lt lf t1 le h =
+    adds (p.Serve service p.no_argument) ty c t m n to free lt lf t1 le h =
+        at_most g code low limit (c + 64 * 1) t (omega arith) (omega arith) (adds_service g code low limit to (register to lt t1) ty h)
+    adds (p.Serve service (p.an_argument e)) ty c t m n to free lt lf t1 le h =
         let one = nodes_positive e in
         at_most g code low limit (c + 64 * (1 + expr_nodes e)) t (omega arith) (omega arith)
         (adds e ty.0 (c + 11) t m _ free (free + 1) lf (omega arith) (omega arith) (omega arith)
-        (adds_putchar g code low limit to free (register to lt t1) (register free lf (omega arith)) h))
+        (adds_service_of g code low limit to free (register to lt t1) (register free lf (omega arith)) (is-unary (row service).parameter (shape_of g e) ty.1) h))
 
     pub arguments_add : (os : List p.LocalObject) (es : p.Exprs) → AreArguments g f os es → (c t : ℕ) (m n : Made) (free : ℕ) → low ≤ free → free + 1 + exprs_nodes es ≤ limit → Step g code low limit c t m n → Step g code low limit (c + 64 * exprs_nodes es) t m (make_arguments g first es free n)
     arguments_add os p.no_exprs ty c t m n free lf le h = at_most g code low limit (c + 64 * 0) t (omega arith) (omega arith) h

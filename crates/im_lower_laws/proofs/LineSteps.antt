@@ -1,6 +1,6 @@
 -- The lines that lowering puts, each with what it adds.
 use Rattle.std.proofs.Common.{◌≡◌, ◌≢◌, ◌⊎◌, ℕ, ◌+◌, ◌*◌, ◌^◌, ◌<◌, ◌≤◌, Bool, true, false, List, [], ◌∷◌, length, refl, arith}
-use Rattle.std.specs.Prelude.{slice_get, ℤ, pos}
+use Rattle.std.specs.Prelude.{slice_get, ℤ, pos, Some, None}
 use Rattle.im_num.specs.declared.kind.Kind.{Kind}
 use Rattle.im_num.specs.declared.kind.Kind.TheVariants.{I8, U8, I16, U16, I32, U32, Ptr}
 use Rattle.im_ctype.specs.declared.cell.Cell.{Cell}
@@ -11,9 +11,11 @@ use Rattle.im_typed.specs.declared.expression.Change.{Change}
 use Rattle.im_typed.specs.declared.expression.Change.TheVariants.{Number as NumberBy, Move as PointerBy}
 use Rattle.im_typed.specs.Program as p
 use Rattle.im_typed.specs.Values.{changed_kind}
+use Rattle.im_serve.specs.declared.service.Service.{Service}
+use Rattle.im_serve.specs.Services.{row, IsNullary, IsUnary}
 use Rattle.im_block.specs.declared.code.Place.{Place}
 use Rattle.im_block.specs.declared.code.Place.TheVariants.{Static, Local, Through}
-use Rattle.im_block.specs.declared.code.Line.TheVariants.{Put, PutNull, Convert, Unary, Not, Compute, Compare, Move, Distance, Address, Read, Write, Call, GetChar, PutChar}
+use Rattle.im_block.specs.declared.code.Line.TheVariants.{Put, PutNull, Convert, Unary, Not, Compute, Compare, Move, Distance, Address, Read, Write, Call, Serve}
 use Rattle.im_block.specs.Shape.{narrowing, place_registers}
 use Rattle.im_block.specs.declared.unit.Function.{Function}
 use Rattle.im_alloc_placed.specs.Operands.{IsPromoted, PlaceExists, PlaceFrom}
@@ -75,10 +77,10 @@ module _ (g : p.Prog) (code : Function) (low limit : ℕ) where
       let below = r.below in
       step_put g code low limit (PutNull to) 7 (record { small = omega arith; calls = tt; from = r.from; uncut = tt; placeable = tt }) refl (omega arith) (omega arith) h
 
-  pub adds_getchar : {c t : ℕ} {m n : Made} (to : ℕ) → R to → Step g code low limit c t m n → Step g code low limit (c + 7) t m (put (GetChar to) n)
-  adds_getchar to r h =
+  pub adds_service : {service : Service} {c t : ℕ} {m n : Made} (to : ℕ) → R to → IsNullary (row service).parameter → Step g code low limit c t m n → Step g code low limit (c + 7) t m (put (Serve to service None) n)
+  adds_service {service} to r ok h =
       let below = r.below in
-      step_put g code low limit (GetChar to) 7 (record { small = omega arith; calls = tt; from = r.from; uncut = tt; placeable = tt }) refl (omega arith) (omega arith) h
+      step_put g code low limit (Serve to service None) 7 (record { small = omega arith; calls = tt; from = r.from; uncut = tt; placeable = ok }) refl (omega arith) (omega arith) h
 
   pub adds_convert : {c t : ℕ} {m n : Made} (to : ℕ) (kind : Kind) (from : ℕ) → R to → R from → (kind ≢ Ptr) → Step g code low limit c t m n → Step g code low limit (c + 11) t m (put (Convert to kind from) n)
   adds_convert to kind from r s ok h =
@@ -99,11 +101,11 @@ module _ (g : p.Prog) (code : Function) (low limit : ℕ) where
       let under = s.below in
       step_put g code low limit (Not to from) 10 (record { small = omega arith; calls = tt; from = (r.from, s.from); uncut = tt; placeable = tt }) refl (omega arith) (omega arith) h
 
-  pub adds_putchar : {c t : ℕ} {m n : Made} (to from : ℕ) → R to → R from → Step g code low limit c t m n → Step g code low limit (c + 11) t m (put (PutChar to from) n)
-  adds_putchar to from r s h =
+  pub adds_service_of : {service : Service} {c t : ℕ} {m n : Made} (to from : ℕ) → R to → R from → IsUnary (row service).parameter → Step g code low limit c t m n → Step g code low limit (c + 11) t m (put (Serve to service (Some from)) n)
+  adds_service_of {service} to from r s ok h =
       let below = r.below in
       let under = s.below in
-      step_put g code low limit (PutChar to from) 11 (record { small = omega arith; calls = tt; from = (r.from, s.from); uncut = tt; placeable = tt }) refl (omega arith) (omega arith) h
+      step_put g code low limit (Serve to service (Some from)) 11 (record { small = omega arith; calls = tt; from = (r.from, s.from); uncut = tt; placeable = ok }) refl (omega arith) (omega arith) h
 
   pub adds_compute : {c t : ℕ} {m n : Made} (to : ℕ) (op : BinaryOp) (kind : Kind) (left right : ℕ) → R to → R left → R right → IsPromoted kind → Step g code low limit c t m n → Step g code low limit (c + 16) t m (put (Compute to op kind left right) n)
   adds_compute to op kind left right r s q ok h =

@@ -1,6 +1,6 @@
 -- Placing can give the registers of the code homes, and no cut stands in it.
 use Rattle.std.proofs.Common.{◌≡◌, ◌≢◌, inl, inr, ℕ, zero, suc, ◌+◌, ◌*◌, ◌/◌, ◌==◌, Bool, false, List, [], ◌∷◌, length, map, take, sum_by, refl, ap, sym, ◌∙◌, subst, arith}
-use Rattle.std.specs.Prelude.{◌≤◌, Some, slice_get, All}
+use Rattle.std.specs.Prelude.{◌≤◌, Some, slice_get, All, None}
 use Rattle.std.proofs.lemmas.List.{length-map, length-take}
 use Rattle.std.proofs.lemmas.Option.{slice_get_within}
 use Rattle.std.proofs.lemmas.List.Sums.{sum_by-cons}
@@ -13,7 +13,7 @@ use Rattle.im_typed.specs.Typing.{Each, IsTypedFunc, IsWellTyped}
 use Rattle.im_typed.specs.Counts.{func_nodes, slot_bytes}
 use Rattle.im_block.specs.declared.code.Block.{Block}
 use Rattle.im_block.specs.declared.code.Line.{Line}
-use Rattle.im_block.specs.declared.code.Line.TheVariants.{Put, PutNull, Copy, Convert, Unary, Not, Compute, Compare, Move, Distance, Address, Read, Write, Reload, Spill, Cut, Call, GetChar, PutChar}
+use Rattle.im_block.specs.declared.code.Line.TheVariants.{Put, PutNull, Copy, Convert, Unary, Not, Compute, Compare, Move, Distance, Address, Read, Write, Reload, Spill, Cut, Call, Serve}
 use Rattle.im_block.specs.declared.code.Exit.{Exit}
 use Rattle.im_block.specs.declared.code.Exit.TheVariants.{Jump, Turn, Branch, Return}
 use Rattle.im_block.specs.declared.unit.Object.{Object}
@@ -55,8 +55,8 @@ no_cut (Reload to slot access) h = λ e. absurd e
 no_cut (Spill slot from access) h = λ e. absurd e
 no_cut (Cut cause) h = absurd h
 no_cut (Call to i first count) h = λ e. absurd e
-no_cut (GetChar to) h = λ e. absurd e
-no_cut (PutChar to from) h = λ e. absurd e
+no_cut (Serve to service None) h = λ e. absurd e
+no_cut (Serve to service (Some from)) h = λ e. absurd e
 
 -- the entry's lines
 

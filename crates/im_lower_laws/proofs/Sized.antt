@@ -13,7 +13,7 @@ use Rattle.im_typed.specs.Typing.{Each, IsTypedFunc, IsWellTyped}
 use Rattle.im_typed.specs.Counts.{func_nodes}
 use Rattle.im_block.specs.declared.code.Block.{Block}
 use Rattle.im_block.specs.declared.code.Line.{Line}
-use Rattle.im_block.specs.declared.code.Line.TheVariants.{Put, PutNull, Copy, Convert, Unary, Not, Compute, Compare, Move, Distance, Address, Read, Write, Reload, Spill, Cut, Call, GetChar, PutChar}
+use Rattle.im_block.specs.declared.code.Line.TheVariants.{Put, PutNull, Copy, Convert, Unary, Not, Compute, Compare, Move, Distance, Address, Read, Write, Reload, Spill, Cut, Call, Serve}
 use Rattle.im_block.specs.declared.code.Place.{Place}
 use Rattle.im_block.specs.declared.code.Place.TheVariants.{Static, Local, Through}
 use Rattle.im_block.specs.declared.code.Exit.{Exit}
@@ -63,8 +63,8 @@ from_zero low (Reload to slot access) h = omega arith
 from_zero low (Spill slot from access) h = omega arith
 from_zero low (Cut cause) h = tt
 from_zero low (Call to i first count) h = (omega arith, omega arith)
-from_zero low (GetChar to) h = omega arith
-from_zero low (PutChar to from) h = (omega arith, omega arith)
+from_zero low (Serve to service None) h = omega arith
+from_zero low (Serve to service (Some from)) h = (omega arith, omega arith)
 
 exit_from_zero : (low : ℕ) (exit : Exit) → ExitFrom low exit → ExitFrom 0 exit
 exit_from_zero low (Jump b) h = tt
@@ -98,8 +98,8 @@ line_within n (Reload to slot access) h = omega arith
 line_within n (Spill slot from access) h = omega arith
 line_within n (Cut cause) h = tt
 line_within n (Call to i first count) h = (omega arith, omega arith)
-line_within n (GetChar to) h = omega arith
-line_within n (PutChar to from) h = (omega arith, omega arith)
+line_within n (Serve to service None) h = omega arith
+line_within n (Serve to service (Some from)) h = (omega arith, omega arith)
 
 exit_within : (n : ℕ) (exit : Exit) → above_exit exit ≤ n → ExitWithin n exit
 exit_within n (Jump b) h = tt

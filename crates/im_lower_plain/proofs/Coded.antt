@@ -1,6 +1,6 @@
 -- What the body puts for an expression is what the relation asks.
 use Rattle.std.proofs.Common.{◌≡◌, ℕ, suc, ◌+◌, ◌≤◌, true, false, List, [], ◌∷◌, length, refl, ap, ◌∙◌, subst, add-one, arith}
-use Rattle.std.specs.Prelude.{pos, ℤ}
+use Rattle.std.specs.Prelude.{pos, ℤ, Some}
 use Rattle.im_num.specs.declared.kind.Kind.TheVariants.{Ptr}
 use Rattle.im_ctype.specs.declared.cell.Cell.{Cell}
 use Rattle.im_typed.specs.declared.expression.Change.TheVariants.{Number as NumberBy, Move as PointerBy}
@@ -8,7 +8,7 @@ use Rattle.im_typed.specs.Program as p
 use Rattle.im_block.specs.declared.code.Place.{Place}
 use Rattle.im_block.specs.declared.code.Place.TheVariants.{Through}
 use Rattle.im_block.specs.declared.code.Line.{Line}
-use Rattle.im_block.specs.declared.code.Line.TheVariants.{Put, Convert, Unary, Not, Compute, Compare, Move, Distance, Address, Read, Write, Call, PutChar}
+use Rattle.im_block.specs.declared.code.Line.TheVariants.{Put, Convert, Unary, Not, Compute, Compare, Move, Distance, Address, Read, Write, Call, Serve}
 use Rattle.im_block.specs.declared.code.Exit.TheVariants.{Jump, Branch}
 use Rattle.im_block.specs.declared.code.Block.{Block}
 use Rattle.im_lower_relation.specs.Codes.{Point, before, ends, Begins, further_in, above, where_of, reads_of, writes_of, count_of, Codes, CodesPlace, CodesArguments}
@@ -293,8 +293,8 @@ module _ (g : p.Prog) (first : ℕ) (later : List Block) where
     coded (p.Part from (p.Struct count cells) e) to free m low le l =
         coded e free (free + 1) (put (Address to (Through free (part_offset g from e))) m) low le l
     coded (p.Call n es) to free m low le l = arguments_coded es free (put (Call to n free (count_of es)) m) low le l
-    coded p.Getchar to free m low le l = refl
-    coded (p.Putchar e) to free m low le l = coded e free (free + 1) (put (PutChar to free) m) low le l
+    coded (p.Serve service p.no_argument) to free m low le l = refl
+    coded (p.Serve service (p.an_argument e)) to free m low le l = coded e free (free + 1) (put (Serve to service (Some free)) m) low le l
 
     pub arguments_coded : (es : p.Exprs) (free : ℕ) (m : Made) (low : ℕ) → low ≤ length m.blocks → Later low (make_arguments g first es free m) later → CodesArguments g first later es free (make_arguments g first es free m).point m.point
     arguments_coded p.no_exprs free m low le l = refl

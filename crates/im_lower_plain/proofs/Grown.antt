@@ -1,6 +1,6 @@
 -- Expressions add blocks, and change none.
 use Rattle.std.proofs.Common.{ℕ, ◌+◌, false, List, [], ◌∷◌, length}
-use Rattle.std.specs.Prelude.{pos, ℤ}
+use Rattle.std.specs.Prelude.{pos, ℤ, Some, None}
 use Rattle.im_ctype.specs.declared.cell.Cell.{Cell}
 use Rattle.im_typed.specs.declared.expression.Change.{Change}
 use Rattle.im_typed.specs.declared.expression.Change.TheVariants.{Number as NumberBy, Move as PointerBy}
@@ -9,7 +9,7 @@ use Rattle.im_typed.specs.Values.{changed_kind}
 use Rattle.im_num.specs.declared.kind.Kind.TheVariants.{Ptr}
 use Rattle.im_block.specs.declared.code.Place.{Place}
 use Rattle.im_block.specs.declared.code.Place.TheVariants.{Through}
-use Rattle.im_block.specs.declared.code.Line.TheVariants.{Put, PutNull, Convert, Unary, Not, Compute, Compare, Move, Distance, Address, Call, GetChar, PutChar}
+use Rattle.im_block.specs.declared.code.Line.TheVariants.{Put, PutNull, Convert, Unary, Not, Compute, Compare, Move, Distance, Address, Call, Serve}
 use Rattle.im_block.specs.declared.code.Exit.TheVariants.{Jump}
 use Rattle.im_lower_relation.specs.Codes.{further_in, count_of}
 use Rattle.im_lower_plain.specs.Made.{Made}
@@ -85,8 +85,8 @@ module _ (g : p.Prog) (first : ℕ) where
         (grows_put (Put (behind a free) (pos 1)) (change_grows change (changed_in old to (behind a free)) to (behind a free) (place_at first a free) h)))
     grows (p.Part from x e) to free h = grows e free (free + 1) (load_grows x to (Through free (part_offset g from e)) h)
     grows (p.Call k es) to free h = arguments_grow es free (grows_put (Call to k free (count_of es)) h)
-    grows p.Getchar to free h = grows_put (GetChar to) h
-    grows (p.Putchar e) to free h = grows e free (free + 1) (grows_put (PutChar to free) h)
+    grows (p.Serve service p.no_argument) to free h = grows_put (Serve to service None) h
+    grows (p.Serve service (p.an_argument e)) to free h = grows e free (free + 1) (grows_put (Serve to service (Some free)) h)
 
     pub arguments_grow : {m n : Made} (es : p.Exprs) (free : ℕ) → Grows m n → Grows m (make_arguments g first es free n)
     arguments_grow p.no_exprs free h = h

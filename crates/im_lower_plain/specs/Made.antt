@@ -4,7 +4,7 @@ use Rattle.im_num.specs.declared.kind.Kind.{Kind}
 use Rattle.im_block.specs.declared.code.Place.{Place}
 use Rattle.im_block.specs.declared.code.Place.TheVariants.{Static, Local, Through}
 use Rattle.im_block.specs.declared.code.Line.{Line}
-use Rattle.im_block.specs.declared.code.Line.TheVariants.{Put, PutNull, Copy, Convert, Unary, Not, Compute, Compare, Move, Distance, Address, Read, Write, Reload, Spill, Cut, Call, GetChar, PutChar}
+use Rattle.im_block.specs.declared.code.Line.TheVariants.{Put, PutNull, Copy, Convert, Unary, Not, Compute, Compare, Move, Distance, Address, Read, Write, Reload, Spill, Cut, Call, Serve}
 use Rattle.im_block.specs.declared.code.Exit.{Exit}
 use Rattle.im_block.specs.declared.code.Exit.TheVariants.{Jump, Turn, Branch, Return}
 use Rattle.im_block.specs.declared.code.Block.{Block}
@@ -46,8 +46,8 @@ above_line (Reload to slot access) = to + 1
 above_line (Spill slot from access) = from + 1
 above_line (Cut cause) = 0
 above_line (Call to function first count) = max (to + 1) (first + count)
-above_line (GetChar to) = to + 1
-above_line (PutChar to from) = max (to + 1) (from + 1)
+above_line (Serve to service None) = to + 1
+above_line (Serve to service (Some from)) = max (to + 1) (from + 1)
 
 abbrev pub above_exit : Exit → ℕ
 above_exit (Jump b) = 0

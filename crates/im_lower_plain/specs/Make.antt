@@ -1,6 +1,6 @@
 -- What the parts of an expression put before the open block, as a function from the code so far. Private contracts alone
 -- speak of this; that it is what the relation asks is proved.
-use Rattle.std.specs.Prelude.{ℕ, ◌+◌, true, false, Bool, List, [], ◌∷◌, length, ℤ, pos, slice_get}
+use Rattle.std.specs.Prelude.{ℕ, ◌+◌, true, false, Bool, List, [], ◌∷◌, length, ℤ, pos, slice_get, Some, None}
 use Rattle.im_num.specs.declared.kind.Kind.TheVariants.{Ptr}
 use Rattle.im_ctype.specs.declared.cell.Cell.{Cell}
 use Rattle.im_typed.specs.declared.expression.Change.{Change}
@@ -10,7 +10,7 @@ use Rattle.im_typed.specs.Typing.{shape_of}
 use Rattle.im_typed.specs.Values.{changed_kind}
 use Rattle.im_block.specs.declared.code.Place.{Place}
 use Rattle.im_block.specs.declared.code.Place.TheVariants.{Static, Local, Through}
-use Rattle.im_block.specs.declared.code.Line.TheVariants.{Put, PutNull, Convert, Unary, Not, Compute, Compare, Move, Distance, Address, Call, GetChar, PutChar}
+use Rattle.im_block.specs.declared.code.Line.TheVariants.{Put, PutNull, Convert, Unary, Not, Compute, Compare, Move, Distance, Address, Call, Serve}
 use Rattle.im_block.specs.declared.code.Exit.TheVariants.{Jump, Branch}
 use Rattle.im_lower_relation.specs.Codes.{further_in, cells_of_shape, offset_in, count_of}
 use Rattle.im_lower_plain.specs.Made.{Made, put, put_read, put_write, close, start}
@@ -77,7 +77,7 @@ put_operator (p.MoveBy size a b) to free m = put (Move to size false (free + 1) 
 put_operator (p.Distance size a b) to free m = put (Distance to size free (free + 1)) m
 put_operator (p.Compare op kind a b) to free m = put (Compare to op kind free (free + 1)) m
 put_operator (p.Not a) to free m = put (Not to free) m
-put_operator (p.Putchar e) to free m = put (PutChar to free) m
+put_operator (p.Serve service (p.an_argument e)) to free m = put (Serve to service (Some free)) m
 put_operator e to free m = m
 
 -- `&&` and `||`: a block for what follows, and one for the value that is known; then the right operand's truth
@@ -137,8 +137,8 @@ module _ (g : p.Prog) (first : ℕ) where
         make_place a free (put_increment change old to (behind a free) (place_at first a free) m)
     make (p.Part from x e) to free m = make e free (free + 1) (put_load x to (Through free (part_offset g from e)) m)
     make (p.Call n es) to free m = make_arguments es free (put (Call to n free (count_of es)) m)
-    make p.Getchar to free m = put (GetChar to) m
-    make (p.Putchar e) to free m = make e free (free + 1) (put (PutChar to free) m)
+    make (p.Serve service p.no_argument) to free m = put (Serve to service None) m
+    make (p.Serve service (p.an_argument e)) to free m = make e free (free + 1) (put (Serve to service (Some free)) m)
 
     -- arguments stand side by side
     pub make_arguments : p.Exprs → ℕ → Made → Made

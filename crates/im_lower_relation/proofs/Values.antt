@@ -21,7 +21,7 @@ use Rattle.im_typed.specs.Sound.{IsValue, Fits}
 use Rattle.im_typed.proofs.Sounds.{value-kept}
 use Rattle.im_typed.proofs.SoundExprs.{takes-kind}
 use Rattle.im_block.specs.declared.code.Place.TheVariants.{Through}
-use Rattle.im_block.specs.declared.code.Line.TheVariants.{PutNull, Address, Move, Distance, Put, Convert, Unary, Not, Compute, Compare, Read, Write, Call, PutChar}
+use Rattle.im_block.specs.declared.code.Line.TheVariants.{PutNull, Address, Move, Distance, Put, Convert, Unary, Not, Compute, Compare, Read, Write, Call, Serve}
 use Rattle.im_block.specs.declared.code.Exit.TheVariants.{Jump, Branch}
 use Rattle.im_block.specs.declared.code.Block.{Block}
 use Rattle.im_block.specs.declared.unit.Registers.TheVariants.{Virtual}
@@ -39,6 +39,9 @@ use Rattle.im_lower_relation.proofs.Operands.{converted-same, computed-same, com
 use Rattle.im_lower_relation.proofs.Places.{above-more, Stood, place-kept, designates}
 use Rattle.im_lower_relation.proofs.Cells.{read-line, right-reading, assigned, change-lines, move-lines}
 use Rattle.im_lower_relation.proofs.Ready.{HasArguments, Ready, Works, ready-known, ready-took, right-of, right-at, right-placed, right-arguments}
+use Rattle.im_serve.specs.Services.{row}
+use Rattle.im_serve.proofs.Rows.{law_of}
+use Rattle.im_typed.proofs.SoundExprs.{given-kind}
 use Rattle.im_lower_relation.proofs.Bytes.{get-line, put-line}
 
 -- a function's result is a scalar
@@ -437,15 +440,16 @@ module _ (u : Code) (g : Setting) (p : q.Prog) (f : q.Func) (c : Around) (bound 
         let one = ready-known p f c bound ready k.0 k.1.agrees in
         does-weaker u g p home (λ ws w after₂ left₂ came. record { agrees = came.agrees; kept = λ j l ne. came.kept j l ne ∙ k.1.kept j l; has = holds-result (slice_get p.funcs i) ws w.world.store (after₂ to) came.has })
         (works.calls.by i (count_of es) vs v home fn n₁ next after left to free lt is virtual k.1.count k.1.has k.0.fits one.sane one.agrees one.depth one.fuel))
-    lowered q.Getchar to free entry next lt t codes n registers store s ready =
-        subst (λ x. Does u g p home next (at home n x registers store s) (Came registers to free) (value_of c q.Getchar s)) (sym codes)
-        (get-line u g p home fn is virtual to free n next registers store s.world s.fuel ready.agrees)
-    lowered (q.Putchar e) to free entry next lt t codes n registers store s ready =
-        does-number u g p home {kind = I32} tt
-        (used-as e s t.1 t.0 ready
-        (lowered e free (free + 1) entry (before (PutChar to free) next) (omega arith) t.0 codes n registers store s ready))
+    lowered (q.Serve service q.no_argument) to free entry next lt t codes n registers store s ready =
+        subst (λ x. Does u g p home next (at home n x registers store s) (Came registers to free) (value_of c (q.Serve service q.no_argument) s)) (sym codes)
+        (get-line u g p home fn is virtual to free n next registers store registers (λ _ _ _. refl) service c.capacity s.world s.fuel works.capacity ready.agrees)
+    lowered (q.Serve service (q.an_argument e)) to free entry next lt t codes n registers store s ready =
+        let k = given-kind (row service).parameter _ (law_of service).parameter t.1 in
+        does-number u g p home {kind = k.0} k.2
+        (used-as e s k.1 t.0 ready
+        (lowered e free (free + 1) entry (before (Serve to service (Some free)) next) (omega arith) t.0 codes n registers store s ready))
         (λ z v b after left h took.
-        put-line u g p home fn is virtual to free b next after left registers (λ x l ne. took.kept x (omega arith) (λ e. omega arith)) free z c.capacity v.world v.fuel works.capacity took.has took.agrees)
+        put-line u g p home fn is virtual to free b next after left registers (λ x l ne. took.kept x (omega arith) (λ e. omega arith)) service free z c.capacity v.world v.fuel works.capacity took.has took.agrees)
     lowered (q.NullPointer kind) to free entry next lt t codes n registers store s ready =
         subst (λ x. Does u g p home next (at home n x registers store s) (Came registers to free) (value_of c (q.NullPointer kind) s)) (sym codes)
         (does-line u g p home (PutNull to) next n registers store s to (Fine Null) Null refl refl

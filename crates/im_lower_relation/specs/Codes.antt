@@ -9,7 +9,7 @@ use Rattle.im_typed.specs.Typing.{shape_of}
 use Rattle.im_block.specs.declared.code.Place.{Place}
 use Rattle.im_block.specs.declared.code.Place.TheVariants.{Static, Local, Through}
 use Rattle.im_block.specs.declared.code.Line.{Line}
-use Rattle.im_block.specs.declared.code.Line.TheVariants.{Put, PutNull, Convert, Unary, Not, Compute, Compare, Move, Distance, Address, Read, Write, Call, GetChar, PutChar}
+use Rattle.im_block.specs.declared.code.Line.TheVariants.{Put, PutNull, Convert, Unary, Not, Compute, Compare, Move, Distance, Address, Read, Write, Call, Serve}
 use Rattle.im_block.specs.declared.code.Exit.{Exit}
 use Rattle.im_block.specs.declared.code.Exit.TheVariants.{Jump, Branch}
 use Rattle.im_block.specs.declared.code.Block.{Block}
@@ -153,8 +153,8 @@ module _ (g : p.Prog) (first : ℕ) (blocks : List Block) where
     Codes (p.Part from (p.Struct count cells) e) to free s t =
         Codes e free (free + 1) s (before (Address to (Through free (offset_in (slice_get (cells_of_shape (shape_of g e)) from)))) t)
     Codes (p.Call n es) to free s t = CodesArguments es free s (before (Call to n free (count_of es)) t)
-    Codes p.Getchar to free s t = s ≡ before (GetChar to) t
-    Codes (p.Putchar e) to free s t = Codes e free (free + 1) s (before (PutChar to free) t)
+    Codes (p.Serve service p.no_argument) to free s t = s ≡ before (Serve to service None) t
+    Codes (p.Serve service (p.an_argument e)) to free s t = Codes e free (free + 1) s (before (Serve to service (Some free)) t)
 
     -- arguments stand side by side
     pub CodesArguments : p.Exprs → ℕ → Point → Point → Type 0

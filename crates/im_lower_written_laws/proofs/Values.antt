@@ -1,6 +1,6 @@
 -- The code of an expression reads no register first; that which takes its value is written.
 use Rattle.std.proofs.Common.{◌≡◌, ℕ, suc, ◌+◌, ◌<◌, ◌≤◌, ◌⊎◌, inl, inr, true, false, List, refl, sym, subst, arith}
-use Rattle.std.specs.Prelude.{pos, ◌&&◌, ◌==◌, nat_le, nat_lt, slice_get}
+use Rattle.std.specs.Prelude.{pos, ◌&&◌, ◌==◌, nat_le, nat_lt, slice_get, Some, None}
 use Rattle.std.proofs.lemmas.Bool.{and_parts, cases_Bool, eqb-false, ltb-true, leb-true}
 use Rattle.im_num.specs.declared.kind.Kind.TheVariants.{Ptr}
 use Rattle.im_typed.specs.declared.expression.Change.TheVariants.{Number as NumberBy, Move as PointerBy}
@@ -8,7 +8,7 @@ use Rattle.im_typed.specs.Program as p
 use Rattle.im_typed.specs.Typing.{shape_of}
 use Rattle.im_block.specs.declared.code.Place.{Place}
 use Rattle.im_block.specs.declared.code.Place.TheVariants.{Static, Local, Through}
-use Rattle.im_block.specs.declared.code.Line.TheVariants.{Put, PutNull, Convert, Unary, Not, Compute, Compare, Move, Distance, Address, Read, Call, GetChar, PutChar}
+use Rattle.im_block.specs.declared.code.Line.TheVariants.{Put, PutNull, Convert, Unary, Not, Compute, Compare, Move, Distance, Address, Read, Call, Serve}
 use Rattle.im_block.specs.declared.code.Exit.TheVariants.{Jump}
 use Rattle.im_block.specs.declared.code.Block.{Block}
 use Rattle.im_lower_relation.specs.Codes.{Point, before, ends, above, cells_of_shape, offset_in, count_of, where_of, CodesPlace, Codes, CodesArguments}
@@ -183,10 +183,10 @@ module _ (g : p.Prog) (first : ℕ) (blocks : List Block) where
     allows (p.Call x es) to free s t n P c h =
         arguments_allow es free s _ n P c
         (step blocks n (Call to x free (count_of es)) t (OrRow free (count_of es) P) (Or to P) (λ v y. inl (row_bounds free (count_of es) v y)) (λ v f q. inr (without to P v f q)) h)
-    allows p.Getchar to free s t n P c h =
-        subst (λ x. Allows blocks n x P) (sym c) (sets_none blocks n (GetChar to) to t P (λ v. refl) (λ v. refl) h)
-    allows (p.Putchar e) to free s t n P c h =
-        allows e free (free + 1) s _ n P c (sets_one blocks n (PutChar to free) free to t P (λ v. refl) (λ v. refl) h)
+    allows (p.Serve service p.no_argument) to free s t n P c h =
+        subst (λ x. Allows blocks n x P) (sym c) (sets_none blocks n (Serve to service None) to t P (λ v. refl) (λ v. refl) h)
+    allows (p.Serve service (p.an_argument e)) to free s t n P c h =
+        allows e free (free + 1) s _ n P c (sets_one blocks n (Serve to service (Some free)) free to t P (λ v. refl) (λ v. refl) h)
 
     -- arguments are written side by side
     pub arguments_allow : (es : p.Exprs) (free : ℕ) (s t : Point) (n : ℕ) (P : ℕ → Type 0) → CodesArguments g first blocks es free s t → Allows blocks n t (OrRow free (count_of es) P) → Allows blocks n s P

@@ -1,5 +1,5 @@
 -- Each line but a copy to itself has a word, and so have each block and each function's entry.
-use Rattle.std.proofs.Common.{◌≡◌, ◌<◌, ◌≤◌, inl, inr, ℕ, zero, suc, ◌+◌, ◌-◌, ◌^◌, Bool, true, false, List, [], ◌∷◌, ◌++◌, Option, Some, None, length, take, refl, ap, arith, length-append}
+use Rattle.std.proofs.Common.{◌≡◌, ◌<◌, ◌≤◌, inl, inr, ℕ, zero, suc, ◌+◌, ◌*◌, ◌-◌, ◌^◌, Bool, true, false, List, [], ◌∷◌, ◌++◌, Option, Some, None, length, take, refl, ap, arith, length-append}
 use Rattle.std.specs.Prelude.{◌==◌, ◌&&◌, if◌then◌else◌, slice_get}
 use Rattle.std.proofs.lemmas.Bool.Decides.{nat_tests}
 use Rattle.std.proofs.lemmas.List.{take_all}
@@ -18,7 +18,7 @@ use Rattle.im_store.specs.Objects.{Name, Slot}
 use Rattle.im_block.specs.declared.code.Place.{Place}
 use Rattle.im_block.specs.declared.code.Place.TheVariants.{Static, Local, Through}
 use Rattle.im_block.specs.declared.code.Line.{Line}
-use Rattle.im_block.specs.declared.code.Line.TheVariants.{Put, PutNull, Copy, Convert, Unary, Not, Compute, Compare, Move, Distance, Address, Read, Write, Reload, Spill, Cut, Call, GetChar, PutChar}
+use Rattle.im_block.specs.declared.code.Line.TheVariants.{Put, PutNull, Copy, Convert, Unary, Not, Compute, Compare, Move, Distance, Address, Read, Write, Reload, Spill, Cut, Call, Serve}
 use Rattle.im_block.specs.declared.code.Exit.{Exit}
 use Rattle.im_block.specs.declared.code.Exit.TheVariants.{Jump, Turn, Branch, Return}
 use Rattle.im_block.specs.declared.code.Block.{Block}
@@ -38,7 +38,8 @@ use Rattle.im_link.specs.Parts.{first_of, word_count}
 use Rattle.im_link.proofs.Joining.{first_whole}
 use Rattle.im_link_laws.specs.Program.{IsProgram, part_of, start_code, given_at}
 use Rattle.im_link_laws.proofs.Runtimes.{size_of}
-use Rattle.im_select_executes.specs.Executing.{line_words, block_words, function_words}
+use Rattle.im_select_relation.specs.Law.{is_nothing}
+use Rattle.im_select_executes.specs.Executing.{line_halves, block_words, function_words}
 
 append_some : (xs : List CodeLine) (y : CodeLine) (ys : List CodeLine) → 0 < length (xs ++ y ∷ ys)
 append_some [] y ys = omega arith
@@ -92,6 +93,10 @@ address_some to (Static object offset) n = by (low_of n == 0)
 address_some to (Local object offset) n = based_some to (Local object offset) n
 address_some to (Through r offset) n = based_some to (Through r offset) n
 
+-- a line that isn't nothing has a word
+abbrev line_words : Line → ℕ
+line_words line = if is_nothing line then 0 else 1
+
 line_some : (at : Name → ℕ) (m : ℕ) (line : Line) → line_words line ≤ length (line_code at m line)
 line_some at m (Put to number) = constant_some (high_of (word number) == 0) to (high_of (word number)) (low_of (word number))
 line_some at m (PutNull to) = omega arith
@@ -110,13 +115,17 @@ line_some at m (Reload to slot access) = append_some (displaced_code 2 (at (Slot
 line_some at m (Spill slot from access) = append_some (displaced_code 2 (at (Slot slot))) _ _
 line_some at m (Cut cause) = omega arith
 line_some at m (Call to function first count) = omega arith
-line_some at m (GetChar to) = omega arith
-line_some at m (PutChar to from) = omega arith
+line_some at m (Serve to service None) = omega arith
+line_some at m (Serve to service (Some from)) = omega arith
 
-lines_some : (at : Name → ℕ) (m : ℕ → ℕ) (j : ℕ) (lines : List Line) → sum_of line_words lines ≤ length (lines_code at m j lines)
+halves_some : (at : Name → ℕ) (m : ℕ) (line : Line) → line_halves line ≤ 2 * length (line_code at m line)
+halves_some at m (Cut cause) = omega arith
+halves_some at m line = let a = line_some at m line in omega arith
+
+lines_some : (at : Name → ℕ) (m : ℕ → ℕ) (j : ℕ) (lines : List Line) → sum_of line_halves lines ≤ 2 * length (lines_code at m j lines)
 lines_some at m j [] = omega arith
 lines_some at m j (line ∷ lines) =
-    let a = line_some at (m j) line in
+    let a = halves_some at (m j) line in
     let r = lines_some at m (suc j) lines in
     let l = length-append (line_code at (m j) line) (lines_code at m (suc j) lines) in
     omega arith
@@ -156,7 +165,7 @@ sum_append w [] ys = omega arith
 sum_append w (x ∷ xs) ys = let h = sum_append w xs ys in omega arith
 
 -- a comparison that the exit takes is paid by its branch
-tail_some : (live : ℕ → ℕ → Bool) (distance : Reach) (next : Option ℕ) (bare : Bool) (first frame : ℕ) (tail : List Line) (exit : Exit) (taken : Option Test) → IsTaken live tail exit taken → sum_of line_words tail ≤ length (exit_code distance next bare first frame taken exit)
+tail_some : (live : ℕ → ℕ → Bool) (distance : Reach) (next : Option ℕ) (bare : Bool) (first frame : ℕ) (tail : List Line) (exit : Exit) (taken : Option Test) → IsTaken live tail exit taken → sum_of line_halves tail ≤ 2 * length (exit_code distance next bare first frame taken exit)
 tail_some live distance next bare first frame tail exit taken (Nothing exit') = omega arith
 tail_some live distance next bare first frame tail exit taken (Comparing to op kind left right x y p q) = let some = branch_some distance next (Compares op kind left right) (first + x) (first + y) in omega arith
 
@@ -169,8 +178,8 @@ block_some at m live distance next first frame b block =
     let ends : List CodeLine = exit_code distance next (is_empty lines) first frame taken block.exit in
     let a = lines_some at m 0 own in
     let rest = tail_some live distance next (is_empty lines) first frame t.tail block.exit taken t.is in
-    let sum = sum_append line_words own t.tail in
-    let all = ap (sum_of line_words) t.whole in
+    let sum = sum_append line_halves own t.tail in
+    let all = ap (sum_of line_halves) t.whole in
     let e = ended_some distance next first frame taken lines block.exit in
     let l = length-append lines ends in
     let s = same_count (first + b) (lines ++ ends) in

@@ -1,3 +1,5 @@
 pub mod ExternalLines
 pub mod UnitLines
 pub mod Parsing
+pub mod Cut
+pub mod Linked

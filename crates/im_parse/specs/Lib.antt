@@ -1,2 +1,4 @@
 pub mod Externals
+pub mod Links
+pub mod LinkLevels
 pub mod Spelling

@@ -2,6 +2,7 @@
 #![tactic(auto)]
 
 mod externals;
+mod links;
 mod text;
 mod units;
 

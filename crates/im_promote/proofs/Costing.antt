@@ -6,7 +6,7 @@ use Rattle.im_num.specs.declared.kind.Kind.TheVariants.{I8, U8, I16, U16, I32, U
 use Rattle.im_block.specs.declared.code.Place.{Place}
 use Rattle.im_block.specs.declared.code.Place.TheVariants.{Static, Local, Through}
 use Rattle.im_block.specs.declared.code.Line.{Line}
-use Rattle.im_block.specs.declared.code.Line.TheVariants.{Put, PutNull, Copy, Convert, Unary, Not, Compute, Compare, Move, Distance, Address, Read, Write, Reload, Spill, Cut, Call, GetChar, PutChar}
+use Rattle.im_block.specs.declared.code.Line.TheVariants.{Put, PutNull, Copy, Convert, Unary, Not, Compute, Compare, Move, Distance, Address, Read, Write, Reload, Spill, Cut, Call, Serve}
 use Rattle.im_block.specs.declared.code.Block.{Block}
 use Rattle.im_block.specs.declared.unit.Function.{Function}
 use Rattle.im_block.specs.Shape.{sum_of, cost, exit_cost, block_cost, function_cost}
@@ -52,8 +52,8 @@ module _ (homes : ℕ → Option ℕ) where
   line_cost (Spill slot from access) = omega arith
   line_cost (Cut cause) = omega arith
   line_cost (Call to i first many) = omega arith
-  line_cost (GetChar to) = omega arith
-  line_cost (PutChar to from) = omega arith
+  line_cost (Serve to service None) = omega arith
+  line_cost (Serve to service (Some from)) = omega arith
 
   lines_cost : (lines : List Line) → sum_of cost (map (promoted homes) lines) ≤ sum_of cost lines
   lines_cost [] = omega arith

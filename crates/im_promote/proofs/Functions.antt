@@ -7,7 +7,7 @@ use Rattle.im_num.specs.declared.kind.Kind.{Kind}
 use Rattle.im_block.specs.declared.code.Place.{Place}
 use Rattle.im_block.specs.declared.code.Place.TheVariants.{Static, Local, Through}
 use Rattle.im_block.specs.declared.code.Line.{Line}
-use Rattle.im_block.specs.declared.code.Line.TheVariants.{Put, PutNull, Copy, Convert, Unary, Not, Compute, Compare, Move, Distance, Address, Read, Write, Reload, Spill, Cut, Call, GetChar, PutChar}
+use Rattle.im_block.specs.declared.code.Line.TheVariants.{Put, PutNull, Copy, Convert, Unary, Not, Compute, Compare, Move, Distance, Address, Read, Write, Reload, Spill, Cut, Call, Serve}
 use Rattle.im_block.specs.declared.code.Block.{Block}
 use Rattle.im_block.specs.declared.unit.Object.{Object}
 use Rattle.im_block.specs.declared.unit.Function.{Function}
@@ -83,8 +83,8 @@ module _ (f g : Function) (own : List (Option ℕ)) (count : ℕ) (ready : IsRea
   line_fits (Spill slot from access) h u = h
   line_fits (Cut cause) h u = tt
   line_fits (Call to i first many) h u = tt
-  line_fits (GetChar to) h u = tt
-  line_fits (PutChar to from) h u = tt
+  line_fits (Serve to service None) h u = tt
+  line_fits (Serve to service (Some from)) h u = tt
 
   lines_fit : (lines : List Line) → All (IsPlaceableLine ready.statics f) lines → All (LineWithin f.register_count) lines → ((n r : ℕ) → homes n ≡ Some r → All (λ (line : Line). breaks line n ≡ false) lines) → LinesFit homes f lines
   lines_fit [] h w u = tt
@@ -196,8 +196,8 @@ module _ (f : Function) (ready : IsReady f) where
   line_stays (Spill slot from access) = refl
   line_stays (Cut cause) = refl
   line_stays (Call to i first many) = refl
-  line_stays (GetChar to) = refl
-  line_stays (PutChar to from) = refl
+  line_stays (Serve to service None) = refl
+  line_stays (Serve to service (Some from)) = refl
 
   blocks_stay : (xs : List Block) → AllZip (RewritesBlock (homes_from f.first_object stays)) xs xs
   blocks_stay [] = tt

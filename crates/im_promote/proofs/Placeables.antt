@@ -7,7 +7,7 @@ use Rattle.im_num.specs.declared.kind.Kind.TheVariants.{I8, U8, I16, U16, I32, U
 use Rattle.im_block.specs.declared.code.Place.{Place}
 use Rattle.im_block.specs.declared.code.Place.TheVariants.{Static, Local, Through}
 use Rattle.im_block.specs.declared.code.Line.{Line}
-use Rattle.im_block.specs.declared.code.Line.TheVariants.{Put, PutNull, Copy, Convert, Unary, Not, Compute, Compare, Move, Distance, Address, Read, Write, Reload, Spill, Cut, Call, GetChar, PutChar}
+use Rattle.im_block.specs.declared.code.Line.TheVariants.{Put, PutNull, Copy, Convert, Unary, Not, Compute, Compare, Move, Distance, Address, Read, Write, Reload, Spill, Cut, Call, Serve}
 use Rattle.im_block.specs.declared.code.Block.{Block}
 use Rattle.im_block.specs.declared.unit.Function.{Function}
 use Rattle.im_block.specs.declared.unit.Unit.{Unit as Code}
@@ -66,8 +66,8 @@ all_receive n (Read to place kind access ∷ rest) w = w
 all_receive n (Reload to slot access ∷ rest) w = w
 all_receive n (Spill slot from access ∷ rest) w = w
 all_receive n (Call to i first many ∷ rest) w = w
-all_receive n (GetChar to ∷ rest) w = w
-all_receive n (PutChar to from ∷ rest) w = w
+all_receive n (Serve to service None ∷ rest) w = w
+all_receive n (Serve to service (Some from) ∷ rest) w = w
 
 module _ (statics : ℕ) (homes : ℕ → Option ℕ) (f g : Function) (p : PromotesFunction homes f g) (n : ℕ) (free : n ≤ f.register_count) where
   first_same : g.first_object ≡ f.first_object
@@ -109,8 +109,8 @@ module _ (statics : ℕ) (homes : ℕ → Option ℕ) (f g : Function) (p : Prom
   line_able (Spill slot from access) h = h
   line_able (Cut cause) h = h
   line_able (Call to i first many) h = h
-  line_able (GetChar to) h = h
-  line_able (PutChar to from) h = h
+  line_able (Serve to service None) h = h
+  line_able (Serve to service (Some from)) h = h
 
   fresh_home : (place : Place) (r : ℕ) → home_of homes place ≡ Some r → PlaceFits homes f place → n ≤ r
   fresh_home (Static object offset) r e h = cc
@@ -143,8 +143,8 @@ module _ (statics : ℕ) (homes : ℕ → Option ℕ) (f g : Function) (p : Prom
   line_from (Spill slot from access) h w = absurd h
   line_from (Cut cause) h w = w
   line_from (Call to i first many) h w = w
-  line_from (GetChar to) h w = w
-  line_from (PutChar to from) h w = w
+  line_from (Serve to service None) h w = w
+  line_from (Serve to service (Some from)) h w = w
 
   lines_able : (lines : List Line) → All (IsPlaceableLine statics f) lines → All (IsPlaceableLine statics g) (map (promoted homes) lines)
   lines_able [] h = All-nil (IsPlaceableLine statics g)
@@ -177,8 +177,8 @@ module _ (statics : ℕ) (homes : ℕ → Option ℕ) (f g : Function) (p : Prom
   lines_receive (Reload to slot access ∷ rest) h w = absurd h.0.0
   lines_receive (Spill slot from access ∷ rest) h w = absurd h.0.0
   lines_receive (Call to i first many ∷ rest) h w = lines_from (Call to i first many ∷ rest) h w
-  lines_receive (GetChar to ∷ rest) h w = lines_from (GetChar to ∷ rest) h w
-  lines_receive (PutChar to from ∷ rest) h w = lines_from (PutChar to from ∷ rest) h w
+  lines_receive (Serve to service None ∷ rest) h w = lines_from (Serve to service None ∷ rest) h w
+  lines_receive (Serve to service (Some from) ∷ rest) h w = lines_from (Serve to service (Some from) ∷ rest) h w
 
 -- the old block of a new one
 pub record Old (homes : ℕ → Option ℕ) (f : Function) (b : ℕ) (y : Block) : Type 0 where

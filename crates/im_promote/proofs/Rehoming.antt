@@ -7,7 +7,7 @@ use Rattle.std.proofs.lemmas.Bool.{cases_lt}
 use Rattle.im_block.specs.declared.code.Place.{Place}
 use Rattle.im_block.specs.declared.code.Place.TheVariants.{Static, Local, Through}
 use Rattle.im_block.specs.declared.code.Line.{Line}
-use Rattle.im_block.specs.declared.code.Line.TheVariants.{Put, PutNull, Copy, Convert, Unary, Not, Compute, Compare, Move, Distance, Address, Read, Write, Reload, Spill, Cut, Call, GetChar, PutChar}
+use Rattle.im_block.specs.declared.code.Line.TheVariants.{Put, PutNull, Copy, Convert, Unary, Not, Compute, Compare, Move, Distance, Address, Read, Write, Reload, Spill, Cut, Call, Serve}
 use Rattle.im_block.specs.declared.code.Block.{Block}
 use Rattle.im_block.specs.declared.unit.Function.{Function}
 use Rattle.im_alloc_placed.specs.Operands.{PlaceExists}
@@ -39,8 +39,8 @@ module _ (h k : ℕ → Option ℕ) (statics : ℕ) (f : Function) (same : (n : 
   line_same (Spill slot from access) e = refl
   line_same (Cut cause) e = refl
   line_same (Call to i first many) e = refl
-  line_same (GetChar to) e = refl
-  line_same (PutChar to from) e = refl
+  line_same (Serve to service None) e = refl
+  line_same (Serve to service (Some from)) e = refl
 
   lines_same : (lines : List Line) → All (IsPlaceableLine statics f) lines → map (promoted k) lines ≡ map (promoted h) lines
   lines_same [] e = refl
@@ -76,8 +76,8 @@ module _ (h k : ℕ → Option ℕ) (statics : ℕ) (f : Function) (same : (n : 
   line_fits (Spill slot from access) e w = w
   line_fits (Cut cause) e w = tt
   line_fits (Call to i first many) e w = tt
-  line_fits (GetChar to) e w = tt
-  line_fits (PutChar to from) e w = tt
+  line_fits (Serve to service None) e w = tt
+  line_fits (Serve to service (Some from)) e w = tt
 
   lines_fit : (lines : List Line) → All (IsPlaceableLine statics f) lines → LinesFit h f lines → LinesFit k f lines
   lines_fit [] e w = tt

@@ -6,7 +6,7 @@ use Rattle.im_num.specs.declared.kind.Kind.{Kind}
 use Rattle.im_num.specs.declared.kind.Kind.TheVariants.{I8, U8, I16, U16, I32, U32, Ptr}
 use Rattle.im_block.specs.declared.code.Place.{Place}
 use Rattle.im_block.specs.declared.code.Line.{Line}
-use Rattle.im_block.specs.declared.code.Line.TheVariants.{Put, PutNull, Copy, Convert, Unary, Not, Compute, Compare, Move, Distance, Address, Read, Write, Reload, Spill, Cut, Call, GetChar, PutChar}
+use Rattle.im_block.specs.declared.code.Line.TheVariants.{Put, PutNull, Copy, Convert, Unary, Not, Compute, Compare, Move, Distance, Address, Read, Write, Reload, Spill, Cut, Call, Serve}
 use Rattle.im_block.specs.declared.code.Block.{Block}
 use Rattle.im_block.specs.declared.unit.Function.{Function}
 use Rattle.im_block.specs.declared.unit.Unit.{Unit as Code}
@@ -55,8 +55,8 @@ line_uncut homes (Reload to slot access) h e = h e
 line_uncut homes (Spill slot from access) h e = h e
 line_uncut homes (Cut cause) h e = h e
 line_uncut homes (Call to i first many) h e = h e
-line_uncut homes (GetChar to) h e = h e
-line_uncut homes (PutChar to from) h e = h e
+line_uncut homes (Serve to service None) h e = h e
+line_uncut homes (Serve to service (Some from)) h e = h e
 
 lines_uncut : (homes : ℕ → Option ℕ) (lines : List Line) → All IsNoCut lines → All IsNoCut (map (promoted homes) lines)
 lines_uncut homes [] h = All-nil IsNoCut

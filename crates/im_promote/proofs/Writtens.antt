@@ -7,7 +7,7 @@ use Rattle.im_num.specs.declared.kind.Kind.TheVariants.{I8, U8, I16, U16, I32, U
 use Rattle.im_block.specs.declared.code.Place.{Place}
 use Rattle.im_block.specs.declared.code.Place.TheVariants.{Static, Local, Through}
 use Rattle.im_block.specs.declared.code.Line.{Line}
-use Rattle.im_block.specs.declared.code.Line.TheVariants.{Put, PutNull, Copy, Convert, Unary, Not, Compute, Compare, Move, Distance, Address, Read, Write, Reload, Spill, Cut, Call, GetChar, PutChar}
+use Rattle.im_block.specs.declared.code.Line.TheVariants.{Put, PutNull, Copy, Convert, Unary, Not, Compute, Compare, Move, Distance, Address, Read, Write, Reload, Spill, Cut, Call, Serve}
 use Rattle.im_block.specs.declared.code.Exit.{Exit}
 use Rattle.im_block.specs.declared.code.Exit.TheVariants.{Jump, Turn, Branch, Return}
 use Rattle.im_block.specs.declared.code.Block.{Block}
@@ -66,8 +66,8 @@ no_uses n (Call to i first count) v h le = false_or (nat_le first v && nat_lt v 
     let t = both (nat_le first v) (nat_lt v (first + count)) e in
     let less = ltb-true v (first + count) t.1 in
     omega (arith, less, h, le))
-no_uses n (GetChar to) v h le = refl
-no_uses n (PutChar to from) v h le = apart v from (λ e. omega arith)
+no_uses n (Serve to service None) v h le = refl
+no_uses n (Serve to service (Some from)) v h le = apart v from (λ e. omega arith)
 
 no_sets : (n : ℕ) (line : Line) (v : ℕ) → LineWithin n line → n ≤ v → sets line v ≡ false
 no_sets n (Put to z) v h le = apart v to (λ e. omega arith)
@@ -87,8 +87,8 @@ no_sets n (Reload to slot access) v h le = apart v to (λ e. omega arith)
 no_sets n (Spill slot from access) v h le = refl
 no_sets n (Cut cause) v h le = refl
 no_sets n (Call to i first count) v h le = apart v to (λ e. omega arith)
-no_sets n (GetChar to) v h le = apart v to (λ e. omega arith)
-no_sets n (PutChar to from) v h le = apart v to (λ e. omega arith)
+no_sets n (Serve to service None) v h le = apart v to (λ e. omega arith)
+no_sets n (Serve to service (Some from)) v h le = apart v to (λ e. omega arith)
 
 taken_uses : (kind : Kind) (r from v : ℕ) → uses (taken_into kind r from) v ≡ (v == from)
 taken_uses I8 r from v = refl
@@ -148,8 +148,8 @@ module _ (homes : ℕ → Option ℕ) (old new : Function) (p : PromotesFunction
     line_low (Spill slot from access) h = absurd h
     line_low (Cut cause) h = (refl, refl)
     line_low (Call to i first many) h = (refl, refl)
-    line_low (GetChar to) h = (refl, refl)
-    line_low (PutChar to from) h = (refl, refl)
+    line_low (Serve to service None) h = (refl, refl)
+    line_low (Serve to service (Some from)) h = (refl, refl)
 
     exit_low : (a b : ℕ → ℕ → Bool) (exit : Exit) → ((c : ℕ) → a c v ≡ b c v) → exit_lives a exit v ≡ exit_lives b exit v
     exit_low a b (Jump c) e = e c
@@ -228,8 +228,8 @@ module _ (homes : ℕ → Option ℕ) (old new : Function) (p : PromotesFunction
     line_high (Spill slot from access) h w = absurd h
     line_high (Cut cause) h w = other_line (Cut cause) w
     line_high (Call to i first many) h w = other_line (Call to i first many) w
-    line_high (GetChar to) h w = other_line (GetChar to) w
-    line_high (PutChar to from) h w = other_line (PutChar to from) w
+    line_high (Serve to service None) h w = other_line (Serve to service None) w
+    line_high (Serve to service (Some from)) h w = other_line (Serve to service (Some from)) w
 
     module _ (a : ℕ → ℕ → Bool) (b : ℕ → Bool) (below : (c : ℕ) → a c v ≡ true → b c ≡ true) where
       exit_high : (exit : Exit) → ExitWithin count exit → exit_lives a exit v ≡ true → exit_objects b exit ≡ true
@@ -303,8 +303,8 @@ module _ (homes : ℕ → Option ℕ) (old new : Function) (p : PromotesFunction
     line_none (Spill slot from access) h w = absurd h
     line_none (Cut cause) h w = refl
     line_none (Call to i first many) h w = no_uses count (Call to i first many) v w high
-    line_none (GetChar to) h w = refl
-    line_none (PutChar to from) h w = no_uses count (PutChar to from) v w high
+    line_none (Serve to service None) h w = refl
+    line_none (Serve to service (Some from)) h w = no_uses count (Serve to service (Some from)) v w high
 
     exit_none : (a : ℕ → ℕ → Bool) (exit : Exit) → ExitWithin count exit → ((c : ℕ) → a c v ≡ false) → exit_lives a exit v ≡ false
     exit_none a (Jump c) w e = e c

@@ -83,7 +83,7 @@ pub(crate) fn spoiled(base: u64, line: Line, behind: u32) -> u32
     match line {
         Line::Address { place, .. } => named(base, place),
         Line::Read { place, .. } | Line::Write { place, .. } => named_inside(base, place),
-        Line::Call { .. } | Line::GetChar { .. } | Line::PutChar { .. } => behind,
+        Line::Call { .. } | Line::Serve { .. } => behind,
         _ => 0,
     }
 }

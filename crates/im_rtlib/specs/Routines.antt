@@ -4,6 +4,8 @@ use Rattle.im_num.specs.declared.values.Cause.{Cause}
 use Rattle.im_num.specs.declared.values.Cause.TheVariants.{Length, Dep}
 use Rattle.im_mem.specs.Map.{status_at, reason_at, out_len0_at, out_cap_at, in_len_at, in_pos_at, out_len1_at, out_sel_at}
 use Rattle.im_rv.specs.declared.instr.Op.TheVariants.{Lui, Jal, Jalr, Bne, Bgeu, Lw, Lbu, Sb, Sw, Addi, Sltiu, Andi, Add, Ebreak}
+use Rattle.im_serve.specs.declared.service.Service.{Service}
+use Rattle.im_serve.specs.declared.service.Service.TheVariants.{Getchar, Putchar}
 use Rattle.im_rv.specs.Decode.{Line}
 use Rattle.im_rv.specs.Lines.{instruction, CodeLine, plain_line}
 
@@ -14,6 +16,11 @@ getchar_label = 32
 
 abbrev pub putchar_label : ℕ
 putchar_label = 33
+
+-- the label of a service's routine
+abbrev pub service_label : Service → ℕ
+service_label Getchar = getchar_label
+service_label Putchar = putchar_label
 
 abbrev pub exit_label : ℕ
 exit_label = 34
@@ -132,6 +139,11 @@ selector_lines =
 
 abbrev pub putchar : List CodeLine
 putchar = byte_lines ++ (length_lines ++ selector_lines)
+
+-- the routine of a service
+abbrev pub routine : Service → List CodeLine
+routine Getchar = getchar
+routine Putchar = putchar
 
 -- ---- the two ends. A memory is loaded with STATUS 0 and REASON 0, and nothing else stores there, so each end stores one of them.
 

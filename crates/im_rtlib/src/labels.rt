@@ -1,8 +1,23 @@
+ghost use Rattle.std.specs.Prelude.{◌≡◌};
+ghost use Rattle.im_rtlib.specs.Routines.{service_label};
+
+use im_serve::Service;
+
 /// The label of `getchar`. Labels 4 to 31 are those of the checkpoint's entries.
 pub const GETCHAR: u32 = 32;
 
 /// The label of `putchar`.
 pub const PUTCHAR: u32 = 33;
+
+/// The label of a service's routine.
+pub fn service_label(service: Service) -> u32
+    ensures { result ≡ service_label service }
+{
+    match service {
+        Service::Getchar => GETCHAR,
+        Service::Putchar => PUTCHAR,
+    }
+}
 
 /// The label of the end of a program that has returned.
 pub const EXIT: u32 = 34;

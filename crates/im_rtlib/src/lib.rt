@@ -10,6 +10,6 @@ mod putchar;
 
 pub use ends::{exit_lines, stack_lines};
 pub use getchar::getchar_lines;
-pub use labels::{EXIT, FIRST_FREE, GETCHAR, PUTCHAR, STACK};
+pub use labels::{EXIT, FIRST_FREE, STACK, service_label};
 pub use laws::lines_law;
 pub use putchar::putchar_lines;

@@ -11,16 +11,16 @@ use Rattle.im_rules.specs.Rules.{rule_34_break, rule_34_continue}
 use Rattle.im_rules.specs.Context.{Context}
 use Rattle.im_rules.specs.Terms.{Term, constant_in}
 use Rattle.im_rules.specs.Demands.{asks, Refuses}
-use Rattle.im_rules.specs.Declared.{Qualified, Declared}
+use Rattle.im_rules.specs.Declared.{Qualified, Declared, declaration_asks}
 use Rattle.im_rules.specs.Typed.{Typed}
 use Rattle.im_rules.specs.Breaks.{Node, an_expression}
 use Rattle.im_rules.specs.Initialisers.{Shape, one, elements, members, Item, shape_asks, value_asks, completed, Initialised, initialised, Shaped, of_one, of_elements, of_members, Elements, an_element, InMembers, a_member}
 use Rattle.im_rules.specs.Outline.{is_initialised}
 use Rattle.im_rules.specs.Statements.{Site, Added, past, past_expression, in_loop, in_switch, in_block, with_local, behind_initializer, local_asks, MayInitialise, initialises, AreLocals, a_local, TypedDeclaration, of_declaration, Labels, Cases, condition_asks, switch_asks, return_asks, return_value_asks, case_asks, default_asks, switch_type, value_in, label_value, with_constant, count_stmts, past_maybe, MayTest, a_test, MayStep, a_step, Begins, by_declaration, by_expression, TypedStatement, of_block, of_expression, of_if, of_while, of_do, of_for, of_switch, of_break, of_continue, of_return, of_return_value, MayBeTyped, an_else, TypedItems, a_declaration, a_statement, TypedCases, between_cases, a_labelled, Labelled, no_label, of_case, of_default}
-use Rattle.im_rules.specs.BodyBreaks.{Given, an_initialiser, some_elements, some_members, at_shape, at_value, GivenBroken, here_given, in_value, in_elements, in_members, first_element, other_elements, first_member, other_members, BodyNode, some_locals, a_declaration as declaration_node, a_beginning, a_statement as statement_node, an_else as else_node, some_items, some_cases, a_labelled as labelled_node, BodyBreaks, at_local, at_if, at_while, at_do, at_for, at_switch, at_break, at_continue, at_return, at_return_value, at_stray_case, at_stray_default, at_case, at_default, InnerPart, local_declarator, declared_specifiers, begun, evaluated, if_condition, while_condition, do_condition, switched, returned, case_constant, StepPart, for_condition, for_step, BodyPart, locals_behind, declared_locals, begun_by, block_items, first_branch, second_branch, else_statement, while_body, do_body, for_beginning, for_body, switch_block, item_declaration, behind_declaration, item_statement, behind_statement, case_declaration, cases_behind_declaration, case_statement, cases_behind_statement, unlabelled, behind_case, behind_default, BodyBroken, here_in_body, within_body, in_inner, in_step, in_local_initialiser}
+use Rattle.im_rules.specs.BodyBreaks.{Given, an_initialiser, some_elements, some_members, at_shape, at_value, GivenBroken, here_given, in_value, in_elements, in_members, first_element, other_elements, first_member, other_members, BodyNode, some_locals, a_declaration as declaration_node, a_beginning, a_statement as statement_node, an_else as else_node, some_items, some_cases, a_labelled as labelled_node, BodyBreaks, at_local, at_declared, at_if, at_while, at_do, at_for, at_switch, at_break, at_continue, at_return, at_return_value, at_stray_case, at_stray_default, at_case, at_default, InnerPart, local_declarator, begun, evaluated, if_condition, while_condition, do_condition, switched, returned, case_constant, StepPart, for_condition, for_step, BodyPart, locals_behind, declared_locals, begun_by, block_items, first_branch, second_branch, else_statement, while_body, do_body, for_beginning, for_body, switch_block, item_declaration, behind_declaration, item_statement, behind_statement, case_declaration, cases_behind_declaration, case_statement, cases_behind_statement, unlabelled, behind_case, behind_default, BodyBroken, here_in_body, within_body, in_inner, in_step, in_local_initialiser}
 use Rattle.im_rules.proofs.Once.{once, declares_once}
 use Rattle.im_rules.proofs.BodiesOnce.{declaration_once, begins_once, statement_once, labelled_once}
-use Rattle.im_rules.proofs.Sound.{IsTyped, typed_expression, typed_specifiers, typed_declarator, typed_breaks_none, not_refused, clash}
+use Rattle.im_rules.proofs.Sound.{IsTyped, typed_expression, typed_declarator, typed_breaks_none, not_refused, clash}
 
 -- initialisers
 
@@ -108,7 +108,6 @@ body_part behind_default (body_labelled (of_default m r)) = body_labelled r
 
 pub inner_part : {s : Site} {c : Context} {n : BodyNode} {m : Node} → InnerPart s n c m → IsBody s n → IsTyped c m
 inner_part local_declarator (body_locals (a_local d m k r)) = typed_declarator d
-inner_part declared_specifiers (body_declaration (of_declaration m l)) = typed_specifiers m
 inner_part begun (body_beginning (by_expression a)) = typed_expression a
 inner_part evaluated (body_statement (of_expression a)) = typed_expression a
 inner_part if_condition (body_statement (of_if c m a b)) = typed_expression c
@@ -140,6 +139,7 @@ initialises_typed (initialises i) = given_one i
 
 pub body_breaks_none : {s : Site} {r : ℕ} {n : BodyNode} → BodyBreaks s r n → IsBody s n → ⊥
 body_breaks_none {s = s} {r = r} (at_local {i = i} d f) (body_locals (a_local d' m k l)) = clash r _ _ (ap (λ (y : Declared). local_asks s y (completed y.type i) (is_initialised i)) (declares_once d' d)) m f
+body_breaks_none {s = s} {r = r} (at_declared {xs = xs} {ds = ds} f) (body_declaration (of_declaration m l)) = not_refused r (declaration_asks s.context xs ds) m f
 body_breaks_none {r = r} (at_if c f) (body_statement (of_if c' m a b)) = clash r _ _ (ap condition_asks (once c' c)) m f
 body_breaks_none {r = r} (at_while c f) (body_statement (of_while c' m a)) = clash r _ _ (ap condition_asks (once c' c)) m f
 body_breaks_none {s = s} {r = r} (at_do {e = e} a c f) (body_statement (of_do {x = x} a' c' m)) =

@@ -12,9 +12,9 @@ use Rattle.im_rules.specs.Outline.{is_initialised}
 use Rattle.im_rules.specs.Context.{Context, behind_strings}
 use Rattle.im_rules.specs.Terms.{Term, size_in, constant_in}
 use Rattle.im_rules.specs.Demands.{asks, Meets, Refuses}
-use Rattle.im_rules.specs.Declared.{Qualified, Declared, specifiers_ask, behind_specifiers, type_of_specifiers}
+use Rattle.im_rules.specs.Declared.{Qualified, Declared, declaration_asks, behind_tags, type_of_specifiers}
 use Rattle.im_rules.specs.Typed.{Typed, Declares}
-use Rattle.im_rules.specs.Breaks.{Node, an_expression, some_specifiers, a_declarator, Broken, first_token}
+use Rattle.im_rules.specs.Breaks.{Node, an_expression, a_declarator, Broken, first_token}
 use Rattle.im_rules.specs.Initialisers.{shape, one, elements, members, shape_asks, value_asks, completed, strings_given}
 use Rattle.im_rules.specs.Statements.{Site, Added, past, past_expression, past_maybe, in_block, in_loop, in_switch, in_context, local_asks, with_local, behind_initializer, TypedDeclaration, condition_asks, switch_asks, return_asks, return_value_asks, value_in, switch_type, Labels, label_value, case_asks, default_asks, with_constant, with_default, count_stmts, Begins, TypedStatement, Labelled}
 
@@ -85,6 +85,10 @@ pub data BodyBreaks (s : Site) (r : ℕ) : BodyNode → Type 0 where
       → Declares s.context q d y
       → Refuses r (local_asks s y (completed y.type i) (is_initialised i))
       → BodyBreaks s r (some_locals q (t.more_init_declarators d i ds))
+  -- the node of a declaration's specifiers is the declaration
+  at_declared : {at : ℕ} {xs : t.SpecifierList} {ds : t.InitDeclarators}
+      → Refuses r (declaration_asks s.context xs ds)
+      → BodyBreaks s r (a_declaration (t.declaration (t.specifiers at xs) ds))
   at_if : {at : ℕ} {e : t.Expression} {a : t.Statement} {b : t.MaybeStatement} {x : Term} → Typed s.context e x → Refuses r (condition_asks x) → BodyBreaks s r (a_statement (t.if_statement at e a b))
   at_while : {at : ℕ} {e : t.Expression} {a : t.Statement} {x : Term} → Typed s.context e x → Refuses r (condition_asks x) → BodyBreaks s r (a_statement (t.while_statement at e a))
   at_do : {at : ℕ} {e : t.Expression} {a : t.Statement} {x : Term} {u : Stmt} {m : Added}
@@ -116,7 +120,6 @@ is_label a = false
 -- parts of a body that are nodes of expressions and declarators
 pub data InnerPart : Site → BodyNode → Context → Node → Type 0 where
   local_declarator : {s : Site} {q : Qualified} {d : t.Declarator} {i : t.MaybeInitializer} {ds : t.InitDeclarators} → InnerPart s (some_locals q (t.more_init_declarators d i ds)) s.context (a_declarator q d)
-  declared_specifiers : {s : Site} {x : t.Specifiers} {ds : t.InitDeclarators} → InnerPart s (a_declaration (t.declaration x ds)) s.context (some_specifiers x)
   begun : {s : Site} {e : t.Expression} → InnerPart s (a_beginning (t.for_expression (t.an_expression e))) s.context (an_expression e)
   evaluated : {s : Site} {at : ℕ} {e : t.Expression} → InnerPart s (a_statement (t.expression_statement at (t.an_expression e))) s.context (an_expression e)
   if_condition : {s : Site} {at : ℕ} {e : t.Expression} {a : t.Statement} {b : t.MaybeStatement} → InnerPart s (a_statement (t.if_statement at e a b)) s.context (an_expression e)
@@ -141,8 +144,8 @@ pub data BodyPart : Site → BodyNode → Site → BodyNode → Type 0 where
       → Declares s.context q d y
       → BodyPart s (some_locals q (t.more_init_declarators d i ds)) (behind_initializer (completed y.type i) i (with_local d y (completed y.type i) s)) (some_locals q ds)
   declared_locals : {s : Site} {at : ℕ} {xs : t.SpecifierList} {ds : t.InitDeclarators}
-      → Meets (specifiers_ask s.context xs)
-      → BodyPart s (a_declaration (t.declaration (t.specifiers at xs) ds)) (in_context (behind_specifiers s.context xs) s) (some_locals (type_of_specifiers s.context xs) ds)
+      → Meets (declaration_asks s.context xs ds)
+      → BodyPart s (a_declaration (t.declaration (t.specifiers at xs) ds)) (in_context (behind_tags s.context xs ds) s) (some_locals (type_of_specifiers s.context xs) ds)
   begun_by : {s : Site} {d : t.Declaration} → BodyPart s (a_beginning (t.for_declaration d)) s (a_declaration d)
   block_items : {s : Site} {at at' : ℕ} {is : t.BlockItems} → BodyPart s (a_statement (t.block_statement at (t.block at' is))) (in_block s) (some_items is)
   first_branch : {s : Site} {at : ℕ} {e : t.Expression} {a : t.Statement} {b : t.MaybeStatement} → BodyPart s (a_statement (t.if_statement at e a b)) (past_expression e s) (a_statement a)
@@ -194,6 +197,7 @@ statement_token (t.return_statement at e) = at
 
 abbrev pub body_token : BodyNode → ℕ
 body_token (some_locals q (t.more_init_declarators d i ds)) = declarator_token d
+body_token (a_declaration (t.declaration (t.specifiers at xs) ds)) = at
 body_token (a_statement a) = statement_token a
 body_token (a_labelled i n before a) = statement_token a
 body_token n = 0

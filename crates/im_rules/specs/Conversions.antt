@@ -27,10 +27,10 @@ use Rattle.im_typed.specs.im_ctype.Types.{CType, void, integer, pointer, array, 
 use Rattle.im_typed.specs.im_ctype.Members.{places}
 use Rattle.im_typed.specs.declared.expression.Change.{Change}
 use Rattle.im_typed.specs.declared.expression.Change.TheVariants.{Number as NumberBy, Move as PointerBy}
-use Rattle.im_typed.specs.Program.{Place, Static, Local, Target, Member as MemberAt, Expr, Constant, NullPointer, Address, Convert, Unary, Binary, Move, MoveBy, Distance, Compare, Not, And, Or, Choose, Comma, Discard, Assign, Update, Increment, Part, Call, Getchar, Putchar, Exprs, no_exprs, more_exprs}
+use Rattle.im_typed.specs.Program.{Place, Static, Local, Target, Member as MemberAt, Expr, Constant, NullPointer, Address, Convert, Unary, Binary, Move, MoveBy, Distance, Compare, Not, And, Or, Choose, Comma, Discard, Assign, Update, Increment, Part, Call, Serve, Argument, no_argument, an_argument, Exprs, no_exprs, more_exprs}
 use Rattle.im_rules.specs.Rules.{Work, either_holds, both_hold, of_numbers, by_count, sum_of, difference_of, comparison_of, operator}
 use Rattle.im_rules.specs.TypeTests.{same_name, target_of, target_constant, result_of, parameters_of}
-use Rattle.im_rules.specs.Scopes.{Entity, an_object, a_function, an_enumerator, Storage, static_object, local_object, Callee, a_body, no_body, get_character, put_character}
+use Rattle.im_rules.specs.Scopes.{Entity, an_object, a_function, an_enumerator, Storage, static_object, local_object, Callee, a_body, no_body, a_service}
 use Rattle.im_rules.specs.Terms.{Value, Term, lvalue, value, kind_in, access_of, size_in, value_of}
 
 -- a conversion to an integer type is written where the kinds differ (C11 6.3.1.3)
@@ -371,11 +371,15 @@ abbrev pub first_of : Exprs → Expr
 first_of no_exprs = NullPointer Ptr
 first_of (more_exprs e es) = e
 
+-- what a service is given
+abbrev pub argument_in : Exprs → Argument
+argument_in no_exprs = no_argument
+argument_in (more_exprs e es) = an_argument e
+
 abbrev pub call_by : Callee → Exprs → Expr
 call_by (a_body n) es = Call n es
 call_by no_body es = NullPointer Ptr
-call_by get_character es = Getchar
-call_by put_character es = Putchar (first_of es)
+call_by (a_service service) es = Serve service (argument_in es)
 
 abbrev pub call_of : Structs → Option Entity → List Term → Value
 call_of known (Some (a_function f c t)) xs = record { type = result_of t; expr = call_by f (converted known (parameters_of t) xs) }

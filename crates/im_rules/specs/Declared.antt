@@ -1,16 +1,16 @@
 -- Specifiers, stars, suffixes and parameters (C11 6.7.2, 6.7.6): what they make of a type, and what the rules ask of them.
 -- The specifiers' type is handed inward to the name: first the stars, then the suffixes, the last one first.
-use Rattle.std.specs.Prelude.{ℕ, ◌+◌, ℤ, pos, Bool, true, false, ◌&&◌, ◌||◌, List, [], ◌∷◌, Option, Some, None, nat_lt, if◌then◌else◌}
+use Rattle.std.specs.Prelude.{ℕ, ◌+◌, ℤ, pos, Bool, true, false, not, ◌&&◌, ◌||◌, List, [], ◌∷◌, Option, Some, None, nat_lt, if◌then◌else◌}
 use Rattle.im_ctree.specs.im_word.Words.{Name}
 use Rattle.im_ctree.specs.declared.specifier.SpecifierWord.{SpecifierWord}
 use Rattle.im_ctree.specs.declared.specifier.SpecifierWord.TheVariants as w
 use Rattle.im_ctree.specs.Tree as t
 use Rattle.im_typed.specs.im_ctype.declared.integer.Integer.TheVariants.{Int}
-use Rattle.im_typed.specs.im_ctype.Types.{CType, void, integer, pointer, array, unsized, struct, function, CTypes, no_types, more_types, is_void}
-use Rattle.im_rules.specs.Scopes.{Entity, an_object, a_typedef, local_object, Scopes, named, tagged, meaning, meaning_here, tag_meaning, Tag, struct_tag, at_file_scope}
+use Rattle.im_typed.specs.im_ctype.Types.{CType, void, integer, pointer, array, unsized, struct, function, CTypes, no_types, more_types, Structs, is_void}
+use Rattle.im_rules.specs.Scopes.{Entity, an_object, a_typedef, local_object, Scopes, named, tagged, meaning, meaning_here, tag_meaning, tag_meaning_here, Tag, struct_tag, at_file_scope}
 use Rattle.im_rules.specs.Context.{Context, tag_number}
 use Rattle.im_rules.specs.Demands.{Demand, asks}
-use Rattle.im_rules.specs.Rules.{line_type, lines, keywords_in, named_in, rule_1, rule_2_elsewhere, rule_3, rule_4, rule_5, rule_6_length, rule_8_use, rule_9_result, rule_9_parameter, rule_9_void, rule_10, rule_15}
+use Rattle.im_rules.specs.Rules.{line_type, lines, keywords_in, named_in, rule_1, rule_2_elsewhere, rule_3, rule_4, rule_5, rule_6_length, rule_6_absent, rule_8_use, rule_9_result, rule_9_parameter, rule_9_void, rule_10, rule_15}
 
 -- a type with the const of what has it (C11 6.7.3); of an array it is its elements', of a function its result's
 pub record Qualified : Type 0 where
@@ -91,6 +91,20 @@ tags_in c _ = c.scopes
 abbrev pub behind_specifiers : Context → t.SpecifierList → Context
 behind_specifiers c xs = record c { scopes = tags_in c (named_in xs) }
 
+-- of a declaration in a block. One that is `struct s;` alone declares the tag in the innermost scope, whatever it means
+-- further out (C11 6.7.2.3p7); there it is no enum's (rule 3)
+abbrev pub declaration_asks : Context → t.SpecifierList → t.InitDeclarators → List Demand
+declaration_asks c (t.more_specifiers (t.struct_tag at x) t.no_specifiers) t.no_init_declarators =
+    asks 3 (is_no_enum (tag_meaning_here c.scopes x)) ∷ []
+declaration_asks c xs ds = specifiers_ask c xs
+
+abbrev pub tags_declared : Context → t.SpecifierList → t.InitDeclarators → Scopes
+tags_declared c (t.more_specifiers (t.struct_tag at x) t.no_specifiers) t.no_init_declarators = declared_tag c at x (tag_meaning_here c.scopes x)
+tags_declared c xs ds = tags_in c (named_in xs)
+
+abbrev pub behind_tags : Context → t.SpecifierList → t.InitDeclarators → Context
+behind_tags c xs ds = record c { scopes = tags_declared c xs ds }
+
 -- stars (C11 6.7.6.1): the first one is nearest the specifiers; each with the number of `const` behind it
 abbrev pub starred : Qualified → ℕ → Qualified
 starred q k = record { constant = nat_lt 0 k; type = pointer q.constant q.type }
@@ -150,9 +164,19 @@ with_parameters n (t.more_parameters (t.specifiers at xs) m ps) (d ∷ ds) c =
     with_parameters (n + 1) ps ds (with_parameter n d (behind_specifiers c xs))
 with_parameters n ps ds c = c
 
+-- what is asked of a name that is declared, at file scope, in a block, as a parameter or as an enumeration constant (rules 3
+-- and 4); whether that is file scope, whether the name was defined before, and whether it is defined here
+abbrev pub naming_asks : Scopes → Name → Entity → Bool → Bool → Bool → List Demand
+naming_asks g x e at_file before here = asks 3 (rule_3 (meaning_here g x) e at_file before here) ∷ asks 4 (rule_4 (meaning g x) e) ∷ []
+
+-- what is asked of its type at file scope, in a block and of a member (rules 6 and 5): of the one that is written, and of the
+-- one that an object gets with the length that an initialiser gives; whether an initialiser or a body stands behind it
+abbrev pub typing_asks : Structs → Bool → CType → CType → Bool → List Demand
+typing_asks known is_object written a whole = asks 6 (rule_6_absent written whole) ∷ asks 5 (not is_object || rule_5 known a) ∷ []
+
 abbrev pub declared_asks : Option Name → Entity → Scopes → List Demand
 declared_asks None e g = []
-declared_asks (Some x) e g = asks 3 (rule_3 (meaning_here g x) e (at_file_scope g) false false) ∷ asks 4 (rule_4 (meaning g x) e) ∷ []
+declared_asks (Some x) e g = naming_asks g x e (at_file_scope g) false false
 
 -- inner dimensions have lengths (rule 6); only the outermost one of a parameter may be absent
 abbrev pub is_sized : CType → Bool

@@ -1,18 +1,23 @@
 -- What stands before a place at file scope, and what is asked there (C11 6.7, 6.9).
-use Rattle.std.specs.Prelude.{ℕ, ◌+◌, ◌-◌, ℤ, pos, Bool, true, false, not, ◌&&◌, ◌||◌, List, [], ◌∷◌, ◌++◌, length, codes, slice_get, Option, Some, None, if◌then◌else◌}
+use Rattle.std.specs.Prelude.{ℕ, ◌+◌, ◌-◌, ℤ, pos, Bool, true, false, ◌&&◌, ◌||◌, List, [], ◌∷◌, ◌++◌, length, codes, slice_get, Option, Some, None, if◌then◌else◌, map, not}
 use Rattle.im_ctree.specs.im_word.Words.{Name}
 use Rattle.im_ctree.specs.Tree as t
+use Rattle.im_typed.specs.im_serve.declared.service.Service.{Service}
+use Rattle.im_typed.specs.im_serve.declared.service.Service.TheVariants.{Getchar, Putchar}
+use Rattle.im_typed.specs.im_serve.Services.{row, services}
+use Rattle.im_ctree.specs.im_num.declared.kind.Kind.{Kind}
+use Rattle.im_ctree.specs.im_num.declared.kind.Kind.TheVariants.{I8, U8, I16, U16, I32, U32, Ptr}
 use Rattle.im_typed.specs.im_ctype.declared.integer.Integer.{Integer}
 use Rattle.im_typed.specs.im_ctype.declared.integer.Integer.TheVariants.{SignedChar, UnsignedChar, Short, UnsignedShort, Int, UnsignedInt}
-use Rattle.im_typed.specs.im_ctype.Types.{CType, integer, function, no_types, more_types, Member, Structs, is_function}
+use Rattle.im_typed.specs.im_ctype.Types.{CType, CTypes, integer, function, no_types, more_types, Member, Structs, is_function}
 use Rattle.im_rules.specs.TypeTests.{same_name}
-use Rattle.im_rules.specs.Scopes.{Tag, struct_tag, Scopes, nothing, named, tagged, meaning, meaning_here, tag_meaning, at_file_scope, Entity, an_object, a_function, an_enumerator, a_typedef, static_object, Callee, a_body, no_body, get_character, put_character, enum_tag}
-use Rattle.im_rules.specs.Rules.{is_typedef, rule_1, rule_2, rule_2_elsewhere, rule_3, rule_4, rule_5, rule_6_absent, rule_7, rule_8_list, rule_8_constant, rule_11, rule_12_builtin, rule_13, rule_15}
+use Rattle.im_rules.specs.Scopes.{Tag, struct_tag, Scopes, nothing, named, tagged, meaning, tag_meaning, at_file_scope, Entity, an_object, a_function, an_enumerator, a_typedef, static_object, Callee, a_body, no_body, enum_tag, meaning_here, a_service}
+use Rattle.im_rules.specs.Rules.{is_typedef, rule_1, rule_2, rule_2_elsewhere, rule_7, rule_8_list, rule_8_constant, rule_11, rule_12_builtin, rule_13, rule_15, rule_3, rule_4, rule_5, rule_6_absent}
 use Rattle.im_rules.specs.Outline.{Outline, outline, is_in, place_in, nearest, Nearest, parameters}
 use Rattle.im_rules.specs.Context.{Context, with_entity, behind_strings}
 use Rattle.im_rules.specs.Terms.{size_in}
 use Rattle.im_rules.specs.Demands.{Demand, asks}
-use Rattle.im_rules.specs.Declared.{Declared, declared_tag, is_no_enum}
+use Rattle.im_rules.specs.Declared.{Declared, naming_asks, typing_asks, declared_tag, is_no_enum}
 use Rattle.im_rules.specs.Statements.{name_of as name_in}
 
 -- what stands before: what is known; the tags of which a member list has begun; the names that have a body or an
@@ -55,29 +60,47 @@ abbrev pub with_types : List TypeName → Scopes → Scopes
 with_types [] g = g
 with_types (p ∷ ps) g = predeclared_type p.name p.type (with_types ps g)
 
+-- the type of integers of a kind
+abbrev pub integer_of : Kind → Integer
+integer_of I8 = SignedChar
+integer_of U8 = UnsignedChar
+integer_of I16 = Short
+integer_of U16 = UnsignedShort
+integer_of I32 = Int
+integer_of U32 = UnsignedInt
+integer_of Ptr = UnsignedInt
+
+abbrev pub service_parameters : Option Kind → CTypes
+service_parameters None = no_types
+service_parameters (Some kind) = more_types (integer (integer_of kind)) no_types
+
+-- the type of a service, by its row of the table
+abbrev pub service_type : Service → CType
+service_type s = function (integer (integer_of (row s).result)) (service_parameters (row s).parameter)
+
 abbrev pub getchar_name : Name
-getchar_name = codes "getchar"
+getchar_name = (row Getchar).name
 
 abbrev pub putchar_name : Name
-putchar_name = codes "putchar"
+putchar_name = (row Putchar).name
 
 abbrev pub getchar_type : CType
-getchar_type = function (integer Int) no_types
+getchar_type = service_type Getchar
 
 abbrev pub putchar_type : CType
-putchar_type = function (integer Int) (more_types (integer Int) no_types)
+putchar_type = service_type Putchar
 
--- a function that is there without a definition (C11 7.21.7.6, 7.21.7.8): its name, its type, and what calls it
+-- a function that is there without a definition: its name, its type, and what calls it
 pub record Builtin : Type 0 where
   pub name : Name
   pub type : CType
   pub callee : Callee
 
+abbrev pub builtin_of : Service → Builtin
+builtin_of s = record { name = (row s).name; type = service_type s; callee = a_service s }
+
 abbrev pub builtins : List Builtin
-builtins =
-    record { name = getchar_name; type = getchar_type; callee = get_character }
-    ∷ record { name = putchar_name; type = putchar_type; callee = put_character }
-    ∷ []
+builtins = map builtin_of services
 
 abbrev pub with_builtins : List Builtin → Scopes → Scopes
 with_builtins [] g = g
@@ -118,7 +141,7 @@ abbrev pub is_object_entity : Entity → Bool
 is_object_entity (an_object c a s) = true
 is_object_entity e = false
 
--- `getchar` and `putchar` keep their types and have no body
+-- services keep their types and have no body
 abbrev pub keeps_among : List Builtin → Name → Bool → CType → Bool → Bool
 keeps_among [] x c a whole = true
 keeps_among (b ∷ bs) x c a whole =
@@ -134,13 +157,10 @@ file_asks f xs y a whole =
     let x = name_in y.name in
     let e = file_entity f.context.unit xs x y.constant a in
     let g = f.context.scopes in
-    asks 2 (rule_2 xs whole)
-    ∷ asks 3 (rule_3 (meaning_here g x) e true (is_in x f.whole) whole)
-    ∷ asks 4 (rule_4 (meaning g x) e)
-    ∷ asks 6 (rule_6_absent y.type whole)
-    ∷ asks 5 (not (is_object_entity e) || rule_5 f.context.known a)
-    ∷ asks 12 (is_typedef xs || keeps_builtin x y.constant a whole)
-    ∷ []
+    (asks 2 (rule_2 xs whole) ∷ [])
+    ++ (naming_asks g x e true (is_in x f.whole) whole
+    ++ (typing_asks f.context.known (is_object_entity e) y.type a whole
+    ++ (asks 12 (is_typedef xs || keeps_builtin x y.constant a whole) ∷ [])))
 
 -- behind a declarator: its name is in scope, also in its own initialiser (C11 6.2.1p7)
 abbrev pub with_declared : t.SpecifierList → Declared → CType → Bool → FilePlace → FilePlace
@@ -205,7 +225,7 @@ with_struct ms f = record f { context = record f.context { known = f.context.kno
 
 -- a member has a name, a complete object type, and lengths
 abbrev pub member_asks : Structs → Declared → List Demand
-member_asks known y = asks 6 (rule_6_absent y.type false) ∷ asks 5 (rule_5 known y.type) ∷ []
+member_asks known y = typing_asks known true y.type y.type false
 
 abbrev pub member_of : Declared → Member
 member_of y = record { name = name_in y.name; constant = y.constant; type = y.type }
@@ -237,9 +257,7 @@ abbrev pub enumerator_asks : Scopes → Name → Option ℤ → List Demand
 enumerator_asks g x z =
     asks 15 (rule_15 z)
     ∷ asks 8 (constant_fits z)
-    ∷ asks 3 (rule_3 (meaning_here g x) (an_enumerator (number_in z)) (at_file_scope g) false false)
-    ∷ asks 4 (rule_4 (meaning g x) (an_enumerator (number_in z)))
-    ∷ []
+    ∷ naming_asks g x (an_enumerator (number_in z)) (at_file_scope g) false false
 
 abbrev pub with_enumerator : Name → Option ℤ → t.MaybeExpression → FilePlace → FilePlace
 with_enumerator x z e f = in_place (with_entity x (an_enumerator (number_in z)) f.context) f

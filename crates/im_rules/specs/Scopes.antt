@@ -2,16 +2,18 @@
 use Rattle.std.specs.Prelude.{ℕ, ℤ, Bool, true, false, Option, Some, None, if◌then◌else◌}
 use Rattle.im_ctree.specs.im_word.Words.{Name}
 use Rattle.im_typed.specs.im_ctype.Types.{CType}
+use Rattle.im_typed.specs.im_serve.declared.service.Service.{Service}
 use Rattle.im_rules.specs.TypeTests.{same_name}
 
 -- a static by its number, or an object of the function by its number
 pub data Storage : Type 0 where
   static_object local_object : ℕ → Storage
 
--- a function of the unit by its number, one that has no body, or one of the two that are predeclared
+-- a function of the unit by its number, one that has no body, or a service
 pub data Callee : Type 0 where
   a_body : ℕ → Callee
-  no_body get_character put_character : Callee
+  no_body : Callee
+  a_service : Service → Callee
 
 -- what an ordinary name means; `constant` is the const of an object, of a function's result, of what a typedef name means
 pub data Entity : Type 0 where
@@ -51,6 +53,13 @@ meaning_here nothing x = None
 meaning_here (opened g) x = None
 meaning_here (named y e g) x = if same_name y x then Some e else meaning_here g x
 meaning_here (tagged y t g) x = meaning_here g x
+
+-- what the tag means in the innermost scope alone
+abbrev pub tag_meaning_here : Scopes → Name → Option Tag
+tag_meaning_here nothing x = None
+tag_meaning_here (opened g) x = None
+tag_meaning_here (named y e g) x = tag_meaning_here g x
+tag_meaning_here (tagged y t g) x = if same_name y x then Some t else tag_meaning_here g x
 
 -- no scope is opened but that of the file
 abbrev pub at_file_scope : Scopes → Bool

@@ -9,15 +9,15 @@ use Rattle.im_typed.specs.im_ctype.Types.{CType, Structs, kind_of}
 use Rattle.im_typed.specs.im_ctype.Layout.{layout}
 use Rattle.im_typed.specs.declared.statement.Case.{Case}
 use Rattle.im_typed.specs.Program.{Expr, Constant, Stmt, Do, Forget, Initialise, Block, If, While, DoWhile, For, Switch, Break, Continue, Return, Stmts, no_stmts, more_stmts, LocalObject}
-use Rattle.im_rules.specs.Rules.{Position, rule_3, rule_4, rule_5, rule_6_absent, rule_15, rule_17, rule_25_condition, rule_34_break, rule_34_continue, rule_34_constant, rule_34_default, rule_34_switch, rule_34_return}
-use Rattle.im_rules.specs.Scopes.{Entity, an_object, local_object, meaning, meaning_here, at_file_scope}
+use Rattle.im_rules.specs.Rules.{Position, rule_15, rule_17, rule_25_condition, rule_34_break, rule_34_continue, rule_34_constant, rule_34_default, rule_34_switch, rule_34_return}
+use Rattle.im_rules.specs.Scopes.{Entity, an_object, local_object, at_file_scope}
 use Rattle.im_rules.specs.Strings.{strings_in, strings_maybe, strings_of_declarator}
 use Rattle.im_rules.specs.Outline.{is_initialised}
 use Rattle.im_rules.specs.Context.{Context, in_new_scope, with_entity, behind, behind_maybe, behind_strings, behind_declarator}
 use Rattle.im_rules.specs.Terms.{Term, Value, value_of, operand_of, constant_in}
 use Rattle.im_rules.specs.Conversions.{as_type, as_integer, promoted, integer_of}
 use Rattle.im_rules.specs.Demands.{Demand, asks, Meets}
-use Rattle.im_rules.specs.Declared.{Qualified, Declared, specifiers_ask, behind_specifiers, type_of_specifiers}
+use Rattle.im_rules.specs.Declared.{Qualified, Declared, declaration_asks, naming_asks, typing_asks, behind_tags, type_of_specifiers}
 use Rattle.im_rules.specs.Typed.{Typed, Declares}
 use Rattle.im_rules.specs.Initialisers.{Item, Initialised, completed, strings_given, pieces_of}
 
@@ -71,11 +71,8 @@ local_entity n constant a = an_object constant a (local_object n)
 -- of an object that is declared in a block: the rules on names, on absent lengths and on complete types
 abbrev pub local_asks : Site → Declared → CType → Bool → List Demand
 local_asks s d a initialised =
-    asks 3 (rule_3 (meaning_here s.context.scopes (name_of d.name)) (local_entity s.locals d.constant a) (at_file_scope s.context.scopes) false initialised)
-    ∷ asks 4 (rule_4 (meaning s.context.scopes (name_of d.name)) (local_entity s.locals d.constant a))
-    ∷ asks 6 (rule_6_absent d.type initialised)
-    ∷ asks 5 (rule_5 s.context.known a)
-    ∷ []
+    naming_asks s.context.scopes (name_of d.name) (local_entity s.locals d.constant a) (at_file_scope s.context.scopes) false initialised
+    ++ typing_asks s.context.known true d.type a initialised
 
 abbrev pub object_of : Structs → Name → CType → LocalObject
 object_of known x a = record { name = x; size = (layout known a).size; cells = (layout known a).cells }
@@ -122,8 +119,8 @@ in_context c s = record s { context = c }
 -- a declaration in a block
 pub data TypedDeclaration : Site → t.Declaration → Stmts → Added → Site → Type 0 where
   of_declaration : {s e : Site} {at : ℕ} {xs : t.SpecifierList} {ds : t.InitDeclarators} {us : Stmts} {added : Added}
-      → Meets (specifiers_ask s.context xs)
-      → AreLocals (type_of_specifiers s.context xs) (in_context (behind_specifiers s.context xs) s) ds us added e
+      → Meets (declaration_asks s.context xs ds)
+      → AreLocals (type_of_specifiers s.context xs) (in_context (behind_tags s.context xs ds) s) ds us added e
       → TypedDeclaration s (t.declaration (t.specifiers at xs) ds) us added e
 
 -- statements

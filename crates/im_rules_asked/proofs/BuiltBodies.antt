@@ -147,7 +147,7 @@ pub built_declaration : (s : Site) (d : t.Declaration) → Right (declaration_as
     (declaration s d).site
 built_declaration s (t.declaration (t.specifiers at xs) ds) h =
     of_declaration (own (first_of h)) (built_locals (type_of_specifiers s.context xs)
-    (past_specifiers xs s) ds (then_of h))
+    (past_specifiers xs ds s) ds (then_of h))
 
 -- parts of statements
 

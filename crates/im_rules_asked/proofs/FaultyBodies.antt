@@ -12,7 +12,7 @@ use Rattle.im_rules.specs.Typed.{Typed, Declares}
 use Rattle.im_rules.specs.Breaks.{Node, first_token}
 use Rattle.im_rules.specs.Initialisers.{Shape, one, elements, members, shape, shape_asks, value_asks, completed}
 use Rattle.im_rules.specs.Statements.{Site, past, past_expression, past_maybe, in_block, in_loop, in_switch, with_local, local_asks, behind_initializer, condition_asks, switch_asks, return_value_asks, case_asks, with_constant, label_value, switch_type, value_in}
-use Rattle.im_rules.specs.BodyBreaks.{Given, an_initialiser, some_elements, some_members, GivenBreaks, at_shape, at_value, initialiser_token, given_token, GivenBroken, here_given, in_value, in_elements, in_members, first_element, other_elements, first_member, other_members, BodyNode, some_locals, a_declaration, a_beginning, a_statement, an_else, some_items, some_cases, a_labelled, BodyBreaks, at_local, at_if, at_while, at_do, at_for, at_switch, at_break, at_continue, at_return, at_return_value, at_stray_case, at_stray_default, at_case, at_default, is_label, InnerPart, local_declarator, declared_specifiers, begun, evaluated, if_condition, while_condition, do_condition, switched, returned, case_constant, StepPart, for_condition, for_step, BodyPart, locals_behind, declared_locals, begun_by, block_items, first_branch, second_branch, else_statement, while_body, do_body, for_beginning, for_body, switch_block, item_declaration, behind_declaration, item_statement, behind_statement, case_declaration, cases_behind_declaration, case_statement, cases_behind_statement, unlabelled, behind_case, behind_default, body_token, BodyBroken, here_in_body, within_body, in_inner, in_step, in_local_initialiser}
+use Rattle.im_rules.specs.BodyBreaks.{Given, an_initialiser, some_elements, some_members, GivenBreaks, at_shape, at_value, initialiser_token, given_token, GivenBroken, here_given, in_value, in_elements, in_members, first_element, other_elements, first_member, other_members, BodyNode, some_locals, a_declaration, a_beginning, a_statement, an_else, some_items, some_cases, a_labelled, BodyBreaks, at_local, at_declared, at_if, at_while, at_do, at_for, at_switch, at_break, at_continue, at_return, at_return_value, at_stray_case, at_stray_default, at_case, at_default, is_label, InnerPart, local_declarator, begun, evaluated, if_condition, while_condition, do_condition, switched, returned, case_constant, StepPart, for_condition, for_step, BodyPart, locals_behind, declared_locals, begun_by, block_items, first_branch, second_branch, else_statement, while_body, do_body, for_beginning, for_body, switch_block, item_declaration, behind_declaration, item_statement, behind_statement, case_declaration, cases_behind_declaration, case_statement, cases_behind_statement, unlabelled, behind_case, behind_default, body_token, BodyBroken, here_in_body, within_body, in_inner, in_step, in_local_initialiser}
 use Rattle.im_rules.proofs.BodiesOnce.{labelled_once}
 use Rattle.im_rules_asked.specs.Asked.{Asked, both, only, beside}
 use Rattle.im_rules_asked.specs.Expressions.{asked}
@@ -169,6 +169,7 @@ body_here {s = s} {r = r} (at_local {i = i} dd q) =
     in_later (declarator_rightly dd)
     (in_second (in_first_of_three (here_faulty of_none (refused_1 {A = Declared} r
     (λ y. local_asks s y (completed y.type i) (is_initialised i)) (declared_of dd) q))))
+body_here (at_declared q) = in_earlier (here_faulty of_none q)
 body_here {r = r} (at_if c q) =
     in_first (here_faulty (of_one (rightly c)) (refused_1 r (λ x. condition_asks x) (term_of c) q))
 body_here {r = r} (at_while c q) =
@@ -204,7 +205,6 @@ body_here (at_default q) = in_first (here_faulty of_none q)
 pub inner_found : {s : Site} {c : Context} {n : BodyNode} {m : Node} {w : Finding} → InnerPart s n c m
     → Found w (node_asked c m) → Found w (body_asked s n)
 inner_found local_declarator h = in_earlier h
-inner_found (declared_specifiers {x = t.specifiers at xs}) h = in_earlier h
 inner_found begun h = h
 inner_found evaluated h = h
 inner_found if_condition h = in_first (in_one h)

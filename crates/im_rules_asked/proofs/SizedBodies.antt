@@ -42,7 +42,7 @@ sized_declaration : (s : Site) (d : t.Declaration) {n : ℕ} → Found (a_size n
     → BodySized s (a_declaration d) n
 sized_declaration s (t.declaration (t.specifiers at xs) ds) h =
     found_then h (λ x. nowhere x) (λ p x. size_in_part (declared_locals (own p))
-    (sized_locals (type_of_specifiers s.context xs) (past_specifiers xs s) ds x))
+    (sized_locals (type_of_specifiers s.context xs) (past_specifiers xs ds s) ds x))
 
 -- parts of a `for`
 

@@ -1,5 +1,5 @@
 -- Trees that keep and that break the rules on declarations (C11 6.7.1 to 6.7.3, 6.7.8); each stands under its source.
-use Rattle.std.specs.Prelude.{codes, [], ◌∷◌, Some}
+use Rattle.std.specs.Prelude.{ℕ, codes, [], ◌∷◌, Some}
 use Rattle.im_rules.specs.im_ctree.declared.specifier.SpecifierWord.TheVariants as w
 use Rattle.im_rules.specs.im_ctree.Tree as t
 use Rattle.im_rules_asked.specs.Samples.{plain, words, number, only_void}
@@ -97,3 +97,34 @@ kept_8 =
 abbrev pub broken_8 : t.Tree
 broken_8 =
     t.more_externals (t.external_declaration (t.declaration (t.specifiers 0 (t.more_specifiers (t.enum_tag 0 (codes "e")) t.no_specifiers)) (t.more_init_declarators (plain 2 (codes "x")) t.no_initializer t.no_init_declarators))) t.no_externals
+
+-- `struct s`, at that token
+abbrev pub struct_s : ℕ → t.Specifiers
+struct_s at = t.specifiers at (t.more_specifiers (t.struct_tag at (codes "s")) t.no_specifiers)
+
+-- `struct s { int a; };`, then a `main` of these declarations and statements
+abbrev pub behind_struct : t.BlockItems → t.Tree
+behind_struct is =
+    t.more_externals (t.external_declaration (t.declaration (t.specifiers 0 (t.more_specifiers (t.struct_specifier 0 (Some (codes "s")) (t.more_members (words 3 (w.Int ∷ [])) (t.more_declarators (plain 4 (codes "a")) t.no_declarators) t.no_members)) t.no_specifiers)) t.no_init_declarators))
+    (t.more_externals (t.function_definition (words 8 (w.Int ∷ [])) (t.declarator 9 [] (t.name_core (codes "main")) (t.function_suffix 10 (only_void 11) t.no_suffixes)) (t.block 13 is)) t.no_externals)
+
+-- `struct s { int a; }; int main(void) { struct s; struct s x; return 0; }`
+abbrev pub inner_tag : t.Tree
+inner_tag =
+    behind_struct (t.declaration_item (t.declaration (struct_s 14) t.no_init_declarators)
+    (t.declaration_item (t.declaration (struct_s 17) (t.more_init_declarators (plain 19 (codes "x")) t.no_initializer t.no_init_declarators))
+    (t.statement_item (t.return_statement 21 (t.an_expression (number 22 0))) t.no_items)))
+
+-- `struct s { int a; }; int main(void) { { struct s; struct s *p; } struct s x; return 0; }`
+abbrev pub outer_tag : t.Tree
+outer_tag =
+    behind_struct (t.statement_item (t.block_statement 14 (t.block 14 (t.declaration_item (t.declaration (struct_s 15) t.no_init_declarators)
+    (t.declaration_item (t.declaration (struct_s 18) (t.more_init_declarators (t.declarator 20 (0 ∷ []) (t.name_core (codes "p")) t.no_suffixes) t.no_initializer t.no_init_declarators)) t.no_items))))
+    (t.declaration_item (t.declaration (struct_s 24) (t.more_init_declarators (plain 26 (codes "x")) t.no_initializer t.no_init_declarators))
+    (t.statement_item (t.return_statement 28 (t.an_expression (number 29 0))) t.no_items)))
+
+-- `enum s { A }; int main(void) { struct s; return 0; }`
+abbrev pub tag_of_enum : t.Tree
+tag_of_enum =
+    t.more_externals (t.external_declaration (t.declaration (t.specifiers 0 (t.more_specifiers (t.enum_specifier 0 (Some (codes "s")) (t.more_enumerators 3 (codes "A") t.no_expression t.no_enumerators)) t.no_specifiers)) t.no_init_declarators))
+    (t.more_externals (t.function_definition (words 6 (w.Int ∷ [])) (t.declarator 7 [] (t.name_core (codes "main")) (t.function_suffix 8 (only_void 9) t.no_suffixes)) (t.block 11 (t.declaration_item (t.declaration (struct_s 12) t.no_init_declarators) (t.statement_item (t.return_statement 15 (t.an_expression (number 16 0))) t.no_items)))) t.no_externals)

@@ -14,7 +14,7 @@ use Rattle.im_rules.specs.Context.{Context}
 use Rattle.im_rules.specs.Terms.{constant_in}
 use Rattle.im_rules.specs.Conversions.{as_type, as_integer}
 use Rattle.im_rules.specs.Demands.{asks}
-use Rattle.im_rules.specs.Declared.{Qualified, specifiers_ask, behind_specifiers, type_of_specifiers}
+use Rattle.im_rules.specs.Declared.{Qualified, declaration_asks, behind_tags, type_of_specifiers}
 use Rattle.im_rules.specs.Initialisers.{completed, pieces_of}
 use Rattle.im_rules.specs.Statements.{Site, Added, nothing_added, just_strings, and_then, past, past_expression, past_maybe, in_block, in_loop, in_switch, in_context, name_of, local_asks, with_local, local_added, behind_initializer, condition_asks, switch_asks, return_asks, return_value_asks, value_in, switch_type, Labels, Cases, label_value, case_asks, default_asks, with_constant, with_default, case_at, no_cases, appended, count_stmts, with_cases, otherwise_of, empty_block, one_or_zero}
 use Rattle.im_rules.specs.BodyBreaks.{declarator_token}
@@ -73,11 +73,11 @@ locals q s (t.more_init_declarators d i ds) =
     (local_added s.context.known d (name_of (declared s.context q d).name) (local_type q s d i) i)
     (locals q (behind_initializer (local_type q s d i) i (past_local q s d i)) ds)
 
-abbrev pub past_specifiers : t.SpecifierList → Site → Site
-past_specifiers xs s = in_context (behind_specifiers s.context xs) s
+abbrev pub past_specifiers : t.SpecifierList → t.InitDeclarators → Site → Site
+past_specifiers xs ds s = in_context (behind_tags s.context xs ds) s
 
 abbrev pub declaration : Site → t.Declaration → Row
-declaration s (t.declaration (t.specifiers at xs) ds) = locals (type_of_specifiers s.context xs) (past_specifiers xs s) ds
+declaration s (t.declaration (t.specifiers at xs) ds) = locals (type_of_specifiers s.context xs) (past_specifiers xs ds s) ds
 
 abbrev pub initial_asked : Context → CType → t.MaybeInitializer → Asked
 initial_asked c a t.no_initializer = nothing_asked
@@ -95,7 +95,7 @@ locals_asked q s (t.more_init_declarators d i ds) =
 
 abbrev pub declaration_asked : Site → t.Declaration → Asked
 declaration_asked s (t.declaration (t.specifiers at xs) ds) =
-    only (first_then (leaf at (specifiers_ask s.context xs)) (locals_asked (type_of_specifiers s.context xs) (past_specifiers xs s) ds))
+    only (first_then (leaf at (declaration_asks s.context xs ds)) (locals_asked (type_of_specifiers s.context xs) (past_specifiers xs ds s) ds))
 
 -- parts of statements
 

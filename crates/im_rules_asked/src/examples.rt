@@ -7,7 +7,7 @@ ghost use Rattle.im_rules_asked.specs.Asked.{fault};
 ghost use Rattle.im_rules_asked.specs.Expressions.{term};
 ghost use Rattle.im_rules_asked.specs.Statements.{statement};
 ghost use Rattle.im_rules_asked.specs.Units.{Typed, first_fault_of};
-ghost use Rattle.im_rules_asked.specs.DeclarationsSamples.{kept_1, broken_1, kept_2, broken_2, kept_3, broken_3, kept_4, broken_4, kept_5, broken_5, kept_6, broken_6, kept_7, broken_7, kept_8, broken_8};
+ghost use Rattle.im_rules_asked.specs.DeclarationsSamples.{kept_1, broken_1, kept_2, broken_2, kept_3, broken_3, kept_4, broken_4, kept_5, broken_5, kept_6, broken_6, kept_7, broken_7, kept_8, broken_8, inner_tag, outer_tag, tag_of_enum};
 ghost use Rattle.im_rules_asked.specs.UnitsSamples.{kept_9, broken_9, kept_10, broken_10, kept_11, broken_11, kept_12, broken_12, kept_13, broken_13, kept_14, broken_14, kept_15, broken_15, kept_16, broken_16};
 ghost use Rattle.im_rules_asked.specs.OperandsSamples.{kept_17, broken_17, kept_18, broken_18, kept_19, broken_19, kept_20, broken_20, kept_21, broken_21, kept_22, broken_22, kept_23, broken_23, kept_24, broken_24, kept_25, broken_25};
 ghost use Rattle.im_rules_limits.specs.Limits.{of_parameters, of_size, of_statics};
@@ -33,6 +33,14 @@ pub fn declarations_examples()
     ensures breaks_7 { first_fault_of broken_7 ≡ Some (fault 7 0) }
     ensures keeps_8 { first_fault_of kept_8 ≡ None }
     ensures breaks_8 { first_fault_of broken_8 ≡ Some (fault 8 0) }
+{}
+
+/// `struct s;` alone in a block (C11 6.7.2.3p7): behind it s is incomplete there; behind the block it
+/// is the outer one again; and an outer enum may have its tag.
+pub fn tags_examples()
+    ensures inner { first_fault_of inner_tag ≡ Some (fault 5 19) }
+    ensures outer { first_fault_of outer_tag ≡ None }
+    ensures of_enum { first_fault_of tag_of_enum ≡ None }
 {}
 
 /// The rules on declarators, definitions and initialisers (C11 6.7.6, 6.7.9, 6.9).

@@ -2,6 +2,7 @@
 use Rattle.std.proofs.Common.{◌≡◌, ◌&&◌, ◌||◌, ⊎_elim, List, [], ◌∷◌, length, Bool, true, false, refl, sym, ap, subst, arith}
 use Rattle.std.specs.Prelude.{Some, slice_get, if◌then◌else◌}
 use Rattle.std.proofs.lemmas.Bool.{eqb-true}
+use Rattle.im_typed.specs.im_serve.declared.service.Service.TheVariants.{Getchar, Putchar}
 use Rattle.im_store.specs.declared.operators.BinaryOp.TheVariants as s
 use Rattle.im_store.proofs.Same.{both-true}
 use Rattle.im_ctype.specs.declared.integer.Integer.TheVariants.{Int}
@@ -10,7 +11,7 @@ use Rattle.im_typed.specs.Program.{Scalar, LocalObject, Func, Prog, Move, MoveBy
 use Rattle.im_typed.specs.Values.{cells_of}
 use Rattle.im_typed.specs.Typing.{shape_of, IsTyped, TakesArgument, AreArguments, parameters}
 use Rattle.im_rules.specs.TypeTests.{points_to_complete, target_of, result_of, count_types}
-use Rattle.im_rules.specs.Scopes.{a_function, Callee, a_body, no_body, get_character, put_character}
+use Rattle.im_rules.specs.Scopes.{a_function, Callee, a_body, no_body, a_service}
 use Rattle.im_rules.specs.Terms.{Value, Term, kind_in, operand_of, value_of}
 use Rattle.im_rules.specs.Rules.{value_type, rule_17}
 use Rattle.im_rules.specs.Demands.{Meets, index_asks, call_asks, all_fit}
@@ -99,12 +100,12 @@ module _ (g : Prog) (f : Func) (known : Structs) where
     typed = (sound.0, arguments ps xs (parameters (slice_get g.funcs n)) h sound.1 (eqb-true (length xs) (count_types ps) e.0) e.1.1.0);
     shape = sound.2;
   }
-  calls get_character k (function r ps) xs sound h e = record { plain = ap (λ t. is_array (result_of t)) sound; typed = tt; shape = sym (ap (λ t. gives known (result_of t)) sound) }
-  calls put_character k (function r ps) xs sound h e =
-      subst (λ t. Meets (call_asks (Some (a_function put_character k t)) xs) → IsSoundValue g f known (call_of known (Some (a_function put_character k t)) xs)) (sym sound) (puts xs h) e
+  calls (a_service Getchar) k (function r ps) xs sound h e = record { plain = ap (λ t. is_array (result_of t)) sound; typed = tt; shape = sym (ap (λ t. gives known (result_of t)) sound) }
+  calls (a_service Putchar) k (function r ps) xs sound h e =
+      subst (λ t. Meets (call_asks (Some (a_function (a_service Putchar) k t)) xs) → IsSoundValue g f known (call_of known (Some (a_function (a_service Putchar) k t)) xs)) (sym sound) (puts xs h) e
     where
-      puts : (ys : List Term) → AreSound g f known ys → Meets (call_asks (Some (a_function put_character k (function (integer Int) (more_types (integer Int) no_types)))) ys)
-          → IsSoundValue g f known (call_of known (Some (a_function put_character k (function (integer Int) (more_types (integer Int) no_types)))) ys)
+      puts : (ys : List Term) → AreSound g f known ys → Meets (call_asks (Some (a_function (a_service Putchar) k (function (integer Int) (more_types (integer Int) no_types)))) ys)
+          → IsSoundValue g f known (call_of known (Some (a_function (a_service Putchar) k (function (integer Int) (more_types (integer Int) no_types)))) ys)
       puts [] own d = absurd (let none = d.0 in cc)
       puts (y ∷ ys) own d =
           let fit = (both-true (rule_17 (integer Int) (operand_of y)) (all_fit no_types ys) d.1.1.0).0 in

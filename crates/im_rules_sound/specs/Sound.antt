@@ -6,8 +6,9 @@ use Rattle.im_ctype.specs.Types.{CType, void, integer, pointer, array, unsized, 
 use Rattle.im_typed.specs.Program.{Access, Scalar, Place, LocalObject, Func, Prog}
 use Rattle.im_typed.specs.Values.{cells_of}
 use Rattle.im_typed.specs.Typing.{Each, parameters, result_shape, shape_of, IsTypedPlace, IsTyped, IsElement, IsAccess, members_offset}
+use Rattle.im_rules.specs.FileScope.{service_type}
 use Rattle.im_rules.specs.TypeTests.{points_to_complete, result_of, parameters_of}
-use Rattle.im_rules.specs.Scopes.{Callee, a_body, no_body, get_character, put_character}
+use Rattle.im_rules.specs.Scopes.{Callee, a_body, no_body, a_service}
 use Rattle.im_rules.specs.Terms.{Value, Term, lvalue, value, kind_in, access_of, size_in}
 use Rattle.im_rules.specs.Conversions.{element_size}
 
@@ -63,5 +64,4 @@ IsSoundCallee g known (a_body n) t =
     (n < length g.funcs) × TakeTypes (parameters_of t) (parameters (slice_get g.funcs n))
     × (result_shape (slice_get g.funcs n) ≡ gives known (result_of t)) × (is_array (result_of t) ≡ false)
 IsSoundCallee g known no_body t = Unit {0}
-IsSoundCallee g known get_character t = t ≡ function (integer Int) no_types
-IsSoundCallee g known put_character t = t ≡ function (integer Int) (more_types (integer Int) no_types)
+IsSoundCallee g known (a_service s) t = t ≡ service_type s

@@ -1,6 +1,6 @@
 -- Declarations in a block: each object stands among the function's, and its initialiser fits it.
 use Rattle.std.proofs.Common.{◌≡◌, ℕ, ◌+◌, ◌<◌, ◌≤◌, List, [], ◌∷◌, ◌++◌, length, length-append, Bool, true, refl, sym, ap, ◌∙◌, subst, arith}
-use Rattle.std.specs.Prelude.{Some, slice_get}
+use Rattle.std.specs.Prelude.{Option, Some, None, slice_get}
 use Rattle.std.proofs.lemmas.Option.{slice_get_within}
 use Rattle.im_word.specs.Words.{Name}
 use Rattle.im_ctree.specs.Tree as t
@@ -13,14 +13,16 @@ use Rattle.im_rules.specs.Rules.{named_in}
 use Rattle.im_rules.specs.Strings.{strings_of_declarator}
 use Rattle.im_rules.specs.Context.{Context}
 use Rattle.im_rules.specs.Terms.{size_in}
-use Rattle.im_rules.specs.Declared.{Qualified, Declared, behind_specifiers}
+use Rattle.im_rules.specs.Scopes.{Entity, Tag, tag_meaning_here}
+use Rattle.im_rules.specs.Declared.{Qualified, Declared, declared_tag, tags_declared, behind_tags}
 use Rattle.im_rules.specs.Typed.{Declares}
 use Rattle.im_rules.specs.Initialisers.{completed, strings_given, pieces_of}
 use Rattle.im_rules.specs.Statements.{Site, Added, name_of, object_of, with_local, declared_strings, initialised_strings, behind_initializer, MayInitialise, forgets, initialises, AreLocals, no_local, a_local, in_context, TypedDeclaration, of_declaration}
 use Rattle.im_rules.specs.BodyBreaks.{some_locals, a_declaration, an_initialiser, local_declarator, locals_behind, declared_locals}
+use Rattle.im_rules.proofs.Tags.{Form, alone, ordinary, form_of}
 use Rattle.im_rules_limits.proofs.Counted.{counted-within}
 use Rattle.im_rules_limits.specs.Limits.{size_limit, of_local, size_in_part, size_in_inner, size_in_local_initialiser, IsGivenWithin, IsBodyWithin}
-use Rattle.im_rules_sound_expressions.specs.Bounded.{IsBounded, IsSoundEntity, IsSoundContext, HasStrings}
+use Rattle.im_rules_sound_expressions.specs.Bounded.{IsBounded, EachEntity, IsSoundEntity, IsSoundContext, HasStrings}
 use Rattle.im_rules_sound_expressions.specs.Written.{MayBeInitialised, AreWrittenDeclarators, IsWrittenDeclaration}
 use Rattle.im_rules_sound_expressions.proofs.Types.{complete-is-object}
 use Rattle.im_rules_sound_expressions.proofs.Declarators.{declares-bounded, specifiers-bounded, tags-kept}
@@ -38,6 +40,15 @@ completed-bounded known (pointer d a) i b c le = b
 completed-bounded known (array a n) i b c le = b
 completed-bounded known (struct n) i b c le = b
 completed-bounded known (function r ps) i b c le = b
+
+-- a declaration's tags declare no names
+tags-declared-kept : (P : Name → Entity → Type 0) (c : Context) {xs : t.SpecifierList} {ds : t.InitDeclarators} → Form xs ds → EachEntity P c.scopes → EachEntity P (tags_declared c xs ds)
+tags-declared-kept P c (alone {at = at} {x = x}) h = by-tag (tag_meaning_here c.scopes x)
+  where
+    by-tag : (g : Option Tag) → EachEntity P (declared_tag c at x g)
+    by-tag None = h
+    by-tag (Some g) = h
+tags-declared-kept P c {xs = xs} (ordinary a s) h = subst (λ z. EachEntity P z) (sym (s c)) (tags-kept P c (named_in xs) h)
 
 module _ (g : Prog) (f : Func) where
   -- what a declaration gives
@@ -127,10 +138,10 @@ module _ (g : Prog) (f : Func) where
 
   pub declaration-typed : (b k : Bool) {s e : Site} {d : t.Declaration} {us : Stmts} {m : Added} → TypedDeclaration s d us m e → IsWrittenDeclaration d → IsSoundSite g f s m → IsBodyWithin s (a_declaration d) → IsDeclared b k s us m e
   declaration-typed b k {s = s} {e = e} (of_declaration {xs = xs} {ds = ds} {us = us} {added = m} asked p) w h l =
-      let inner = in_context (behind_specifiers s.context xs) s in
+      let inner = in_context (behind_tags s.context xs ds) s in
       let context : IsSoundContext g f inner.context = record {
         structs = h.context.structs;
-        entities = tags-kept (IsSoundEntity g f s.context.known s.context.unit) s.context (named_in xs) h.context.entities;
+        entities = tags-declared-kept (IsSoundEntity g f s.context.known s.context.unit) s.context (form_of xs ds) h.context.entities;
         statics = h.context.statics;
       } in
       let site : IsSoundSite g f inner m = record { context = context; strings = h.strings; objects = h.objects; result = h.result; scalar = h.scalar } in

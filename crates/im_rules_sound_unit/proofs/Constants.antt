@@ -15,7 +15,7 @@ use Rattle.im_store.specs.Objects.{Value, Number, Null, Pointer, static}
 use Rattle.im_store.specs.Statics.{StaticObject}
 use Rattle.im_store.proofs.Same.{both-true}
 use Rattle.im_store.proofs.OfKind.{IsOperand, apply-of_kind, apply_one-of_kind}
-use Rattle.im_typed.specs.Program.{Scalar, Place, Static, Local, Target, Member, Expr, Constant, NullPointer, Read, Address, Convert, Unary, Binary, Move, MoveBy, Distance, Compare, Not, And, Or, Choose, Comma, Discard, Assign, Update, Increment, Part, Call, Getchar, Putchar, Func, Prog}
+use Rattle.im_typed.specs.Program.{Scalar, Place, Static, Local, Target, Member, Expr, Constant, NullPointer, Read, Address, Convert, Unary, Binary, Move, MoveBy, Distance, Compare, Not, And, Or, Choose, Comma, Discard, Assign, Update, Increment, Part, Call, Serve, no_argument, an_argument, Func, Prog}
 use Rattle.im_typed.specs.Typing.{IsInteger, IsRightShape, shape_of, IsTypedPlace, IsTyped, HasPlace, IsFirstValue}
 use Rattle.im_rules.specs.Rules.{is_within}
 use Rattle.im_rules.specs.Constants.{is_constant, truth, is_true, defined, on_one, on_both, as_truth, and_then, or_else, picked, evaluated, constant_value}
@@ -156,8 +156,8 @@ module _ (g : Prog) (f : Func) where
   number-good (Increment p k o) h c z e = absurd (cc)
   number-good (Part n x a) h c z e = absurd (cc)
   number-good (Call n es) h c z e = absurd (cc)
-  number-good Getchar h c z e = absurd (cc)
-  number-good (Putchar a) h c z e = absurd (cc)
+  number-good (Serve service no_argument) h c z e = absurd (cc)
+  number-good (Serve service (an_argument a)) h c z e = absurd (cc)
 
   -- addresses, where each static is as large as it seems
 
@@ -230,8 +230,8 @@ module _ (g : Prog) (f : Func) where
       address-good (Increment q k o) h p e = absurd (cc)
       address-good (Part n x a) h p e = absurd (cc)
       address-good (Call n es) h p e = absurd (cc)
-      address-good Getchar h p e = absurd (cc)
-      address-good (Putchar a) h p e = absurd (cc)
+      address-good (Serve service no_argument) h p e = absurd (cc)
+      address-good (Serve service (an_argument a)) h p e = absurd (cc)
 
     -- the value of a static's initialiser
     pub record IsStaticValue (e : Expr) (v : Value) : Type 0 where
@@ -285,5 +285,5 @@ module _ (g : Prog) (f : Func) where
     static-good (Increment p k o) h v e = value-good (Increment p k o) h v e
     static-good (Part n x a) h v e = value-good (Part n x a) h v e
     static-good (Call n es) h v e = value-good (Call n es) h v e
-    static-good (Putchar a) h v e = value-good (Putchar a) h v e
-    static-good Getchar h v e = value-good Getchar h v e
+    static-good (Serve service (an_argument a)) h v e = value-good (Serve service (an_argument a)) h v e
+    static-good (Serve service no_argument) h v e = value-good (Serve service no_argument) h v e

@@ -4,6 +4,7 @@ use Rattle.std.specs.Prelude.{Some, None, not, slice_get, is_some, Contains, if�
 use Rattle.std.proofs.lemmas.List.{length-map}
 use Rattle.std.proofs.lemmas.List.Elements.{Contains-append_left, Contains-append_right, Contains-push}
 use Rattle.std.proofs.lemmas.Option.{slice_get_within}
+use Rattle.im_typed.specs.im_serve.declared.service.Service.TheVariants.{Getchar, Putchar}
 use Rattle.im_word.specs.Words.{Name}
 use Rattle.im_ctree.specs.Tree as t
 use Rattle.im_store.proofs.Same.{both-true}
@@ -14,7 +15,7 @@ use Rattle.im_typed.specs.Program.{LocalObject, Stmts, no_stmts, Block, Piece, F
 use Rattle.im_typed.specs.Typing.{Each, parameters as typed_parameters, result_shape, IsObject, IsOneCell, IsTypedFunc, AreFirstValues}
 use Rattle.im_rules.specs.TypeTests.{same_name, is_complete_in, result_of, parameters_of as types_given}
 use Rattle.im_rules.specs.Rules.{is_typedef, named_in, rule_2, rule_5, rule_9_result, rule_9_void, rule_11}
-use Rattle.im_rules.specs.Scopes.{Entity, an_object, a_function, an_enumerator, a_typedef, static_object, local_object, a_body, no_body, get_character, put_character, Scopes, nothing, opened, named, tagged, meaning}
+use Rattle.im_rules.specs.Scopes.{Entity, an_object, a_function, an_enumerator, a_typedef, static_object, local_object, a_body, no_body, a_service, Scopes, nothing, opened, named, tagged, meaning}
 use Rattle.im_rules.specs.Outline.{Outline, is_in, place_in, Nearest, parameters, nearest, is_initialised}
 use Rattle.im_rules.specs.Context.{Context, in_new_scope}
 use Rattle.im_rules.specs.Declared.{Qualified, Declared, behind_specifiers, with_parameter, with_parameters, types_of, parameters_of, is_only_void}
@@ -162,11 +163,11 @@ module _ (last : FilePlace) (gs : List FirstValues) (ks : List Func) (fine : IsF
       by-body true e = body-sound known x k a own.0 own.1 means e
       by-body false e = tt
 
-      by-put : (b : Bool) → same_name putchar_name x ≡ b → IsSoundCallee g known (if b then put_character else if is_in x last.context.unit.bodies then a_body (place_in x last.context.unit.bodies) else no_body) a
+      by-put : (b : Bool) → same_name putchar_name x ≡ b → IsSoundCallee g known (if b then (a_service Putchar) else if is_in x last.context.unit.bodies then a_body (place_in x last.context.unit.bodies) else no_body) a
       by-put true e = own.4 e
       by-put false e = by-body (is_in x last.context.unit.bodies) refl
 
-      by-get : (b : Bool) → same_name getchar_name x ≡ b → IsSoundCallee g known (if b then get_character else if same_name putchar_name x then put_character else if is_in x last.context.unit.bodies then a_body (place_in x last.context.unit.bodies) else no_body) a
+      by-get : (b : Bool) → same_name getchar_name x ≡ b → IsSoundCallee g known (if b then (a_service Getchar) else if same_name putchar_name x then (a_service Putchar) else if is_in x last.context.unit.bodies then a_body (place_in x last.context.unit.bodies) else no_body) a
       by-get true e = own.3 e
       by-get false e = by-put (same_name putchar_name x) refl
 

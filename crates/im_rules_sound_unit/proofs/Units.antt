@@ -3,6 +3,7 @@ use Rattle.std.proofs.Common.{◌≡◌, ℕ, zero, suc, ◌<◌, ◌≤◌, nat
 use Rattle.std.specs.Prelude.{Option, Some, None, slice_get, Contains, if◌then◌else◌}
 use Rattle.std.specs.Option.{option_map}
 use Rattle.std.proofs.lemmas.Bool.{ltb-true, ltb-false}
+use Rattle.im_typed.specs.im_serve.declared.service.Service.TheVariants.{Getchar, Putchar}
 use Rattle.im_num.specs.declared.kind.Kind.{Kind}
 use Rattle.im_num.specs.declared.kind.Kind.TheVariants.{I32}
 use Rattle.im_ctree.specs.Tree as t
@@ -15,7 +16,7 @@ use Rattle.im_typed.specs.Program.{Scalar, LocalObject, Func, Prog}
 use Rattle.im_typed.specs.Typing.{Each, IsTypedFunc, IsMain, IsWellTyped}
 use Rattle.im_rules.specs.TypeTests.{result_of, parameters_of}
 use Rattle.im_rules.specs.Rules.{rule_13}
-use Rattle.im_rules.specs.Scopes.{Entity, an_object, a_function, an_enumerator, a_typedef, a_body, no_body, get_character, put_character, meaning}
+use Rattle.im_rules.specs.Scopes.{Entity, an_object, a_function, an_enumerator, a_typedef, a_body, no_body, a_service, meaning}
 use Rattle.im_rules.specs.Outline.{Outline, is_in, place_in}
 use Rattle.im_rules.specs.FileScope.{FilePlace, file_start, main_name, body_type, callee_named}
 use Rattle.im_rules.specs.TypedUnit.{FirstValues, program, TypedUnit, of_unit}
@@ -76,8 +77,8 @@ main-there e h r = by-meaning (meaning e.context.scopes main_name) refl r
           inside = main-callee e.context.unit n own.2;
         }
     by-meaning (Some (a_function no_body c a)) is k = absurd (cc)
-    by-meaning (Some (a_function get_character c a)) is k = absurd (cc)
-    by-meaning (Some (a_function put_character c a)) is k = absurd (cc)
+    by-meaning (Some (a_function (a_service Getchar) c a)) is k = absurd (cc)
+    by-meaning (Some (a_function (a_service Putchar) c a)) is k = absurd (cc)
     by-meaning (Some (an_object c a s)) is k = absurd (cc)
     by-meaning (Some (an_enumerator z)) is k = absurd (cc)
     by-meaning (Some (a_typedef c a)) is k = absurd (cc)

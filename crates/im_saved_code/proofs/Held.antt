@@ -6,7 +6,7 @@ use Rattle.std.proofs.lemmas.List.Elements.{All-head, All-tail}
 use Rattle.im_block.specs.declared.code.Place.{Place}
 use Rattle.im_block.specs.declared.code.Place.TheVariants.{Static, Local, Through}
 use Rattle.im_block.specs.declared.code.Line.{Line}
-use Rattle.im_block.specs.declared.code.Line.TheVariants.{Put, PutNull, Copy, Convert, Unary, Not, Compute, Compare, Move, Distance, Address, Read, Write, Reload, Spill, Cut, Call, GetChar, PutChar}
+use Rattle.im_block.specs.declared.code.Line.TheVariants.{Put, PutNull, Copy, Convert, Unary, Not, Compute, Compare, Move, Distance, Address, Read, Write, Reload, Spill, Cut, Call, Serve}
 use Rattle.im_block.specs.declared.code.Exit.{Exit}
 use Rattle.im_block.specs.declared.code.Exit.TheVariants.{Jump, Turn, Branch, Return}
 use Rattle.im_block.specs.declared.code.Block.{Block}
@@ -60,8 +60,8 @@ module _ (r : ℕ) where
       let at = h.1 in
       let few = h.2 in
       omega arith
-  uses_small statics f (GetChar to) h e = absurd cc
-  uses_small statics f (PutChar to from) h e = let at = h.1 in small_is from (omega arith) e
+  uses_small statics f (Serve to service None) h e = absurd cc
+  uses_small statics f (Serve to service (Some from)) h e = let at = h.1 in small_is from (omega arith) e
 
 module _ (r : ℕ) (live : ℕ → ℕ → Bool) (small : (b : ℕ) → live b r ≡ true → r < 32) where
   exit_small : (exit : Exit) → IsPlacedExit exit → exit_live live exit r ≡ true → r < 32
@@ -102,8 +102,8 @@ result_not_set r to at n = by (r == to) refl
 
 not_set : (statics : ℕ) (f : Function) (line : Line) (r : ℕ) → IsPlacedLine statics f line → not (writes line r) ≡ true → not (sets line r) ≡ true
 not_set statics f (Call to i first count) r h n = result_not_set r to h.0 n
-not_set statics f (GetChar to) r h n = result_not_set r to h n
-not_set statics f (PutChar to from) r h n = result_not_set r to h.0 n
+not_set statics f (Serve to service None) r h n = result_not_set r to h.0 n
+not_set statics f (Serve to service (Some from)) r h n = result_not_set r to h.0 n
 not_set statics f line r h n = n
 
 module _ (live wanted : ℕ → ℕ → Bool) (r : ℕ) (u : IsUnsaved r) (known : (b : ℕ) → live b r ≡ true → wanted b r ≡ true) where

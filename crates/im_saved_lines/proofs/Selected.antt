@@ -16,10 +16,11 @@ use Rattle.im_rtlib.specs.Routines.{aimed}
 use Rattle.im_store.specs.declared.operators.Comparison.{Comparison}
 use Rattle.im_store.specs.declared.operators.Comparison.TheVariants.{Less, Greater, LessOrEqual, GreaterOrEqual, Equal, NotEqual}
 use Rattle.im_store.specs.Objects.{Name}
+use Rattle.im_serve.specs.declared.service.Service.TheVariants.{Getchar, Putchar}
 use Rattle.im_block.specs.declared.code.Place.{Place}
 use Rattle.im_block.specs.declared.code.Place.TheVariants.{Static, Local, Through}
 use Rattle.im_block.specs.declared.code.Line.{Line}
-use Rattle.im_block.specs.declared.code.Line.TheVariants.{Put, PutNull, Copy, Convert, Unary, Not, Compute, Compare, Move, Distance, Address, Read, Write, Reload, Spill, Cut, Call, GetChar, PutChar}
+use Rattle.im_block.specs.declared.code.Line.TheVariants.{Put, PutNull, Copy, Convert, Unary, Not, Compute, Compare, Move, Distance, Address, Read, Write, Reload, Spill, Cut, Call, Serve}
 use Rattle.im_block.specs.declared.code.Exit.{Exit}
 use Rattle.im_block.specs.declared.code.Exit.TheVariants.{Jump, Turn, Branch, Return}
 use Rattle.im_block.specs.declared.unit.Function.{Function}
@@ -79,8 +80,8 @@ uses_home statics f (Call to i first count) r h e =
     let at = h.1 in
     let few = h.2 in
     (omega arith, omega arith)
-uses_home statics f (GetChar to) r h e = absurd cc
-uses_home statics f (PutChar to from) r h e = let q : r ≡ from = same_of r from e in let at = h.1 in (omega arith, omega arith)
+uses_home statics f (Serve to service None) r h e = absurd cc
+uses_home statics f (Serve to service (Some from)) r h e = let q : r ≡ from = same_of r from e in let at = h.1 in (omega arith, omega arith)
 
 base_two : (r : ℕ) → (r == 2) ≡ true → is_base r ≡ true
 base_two r e = let q : r ≡ 2 = same_of r 2 e in ap is_base q
@@ -409,8 +410,10 @@ module _ (functions : List Function) (statics first count frame : ℕ) (f : Func
   line_before : (k : ℕ) (line : Line) (behind : After) (r : ℕ) → IsPlacedLine statics f line → LineThere functions line → IsUnsaved r → (scan at (line_code places k line) behind).next r ≡ true → Before line behind r
   line_before k (Cut cause) behind r h t u w = inr (refl, cut_before at k cause behind r u w)
   line_before k (Call to i start given) behind r h t u w = inl (or_left (uses (Call to i start given) r) (true && r == 2) (called i start given r h.1 (takes (slice_get functions i) i given r refl t u (jump_before at 1 (entry_label i) behind r refl u w))))
-  line_before k (GetChar to) behind r h t u w = let away = label_only 32 r (omega arith) u (jump_before at 1 32 behind r refl u w) in absurd cc
-  line_before k (PutChar to from) behind r h t u w =
+  line_before k (Serve to Putchar None) behind r h t u w = absurd h.1
+  line_before k (Serve to Getchar (Some from)) behind r h t u w = absurd h.2
+  line_before k (Serve to Getchar None) behind r h t u w = let away = label_only 32 r (omega arith) u (jump_before at 1 32 behind r refl u w) in absurd cc
+  line_before k (Serve to Putchar (Some from)) behind r h t u w =
       let is : r ≡ 10 = ten (label_only 33 r (omega arith) u (jump_before at 1 33 behind r refl u w)) in
       inl (or_left (r == from) (true && r == 2) (same_is r from (is ∙ sym h.1)))
     where
@@ -444,10 +447,16 @@ module _ (functions : List Function) (statics first count frame : ℕ) (f : Func
   line_sound n (Call to i start given) rest exit behind k home s v =
       jump_sound at 1 (entry_label i) behind (λ e. absurd (omega arith)) (omega arith)
       (λ e r w. returned_of r (elim (or_unsaved ((is_base r ≡ true) ⊎ (r ≡ 10)) r (λ u. s.0 tt r (k r u w))) [ inl a ↦ inl a | inr b ↦ b ]))
-  line_sound n (GetChar to) rest exit behind k home s v =
+  line_sound n (Serve to Getchar None) rest exit behind k home s v =
       jump_sound at 1 32 behind (λ e. absurd (omega arith)) (omega arith)
       (λ e r w. returned_of r (elim (or_unsaved ((is_base r ≡ true) ⊎ (r ≡ 10)) r (λ u. s.0 tt r (k r u w))) [ inl a ↦ inl a | inr b ↦ b ]))
-  line_sound n (PutChar to from) rest exit behind k home s v =
+  line_sound n (Serve to Getchar (Some from)) rest exit behind k home s v =
+      jump_sound at 1 32 behind (λ e. absurd (omega arith)) (omega arith)
+      (λ e r w. returned_of r (elim (or_unsaved ((is_base r ≡ true) ⊎ (r ≡ 10)) r (λ u. s.0 tt r (k r u w))) [ inl a ↦ inl a | inr b ↦ b ]))
+  line_sound n (Serve to Putchar None) rest exit behind k home s v =
+      jump_sound at 1 33 behind (λ e. absurd (omega arith)) (omega arith)
+      (λ e r w. returned_of r (elim (or_unsaved ((is_base r ≡ true) ⊎ (r ≡ 10)) r (λ u. s.0 tt r (k r u w))) [ inl a ↦ inl a | inr b ↦ b ]))
+  line_sound n (Serve to Putchar (Some from)) rest exit behind k home s v =
       jump_sound at 1 33 behind (λ e. absurd (omega arith)) (omega arith)
       (λ e r w. returned_of r (elim (or_unsaved ((is_base r ≡ true) ⊎ (r ≡ 10)) r (λ u. s.0 tt r (k r u w))) [ inl a ↦ inl a | inr b ↦ b ]))
   line_sound n line rest exit behind k home s v = plain_sound at (line_code places n line) behind (work_plain places n line tt)

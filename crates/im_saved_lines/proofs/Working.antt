@@ -16,7 +16,7 @@ use Rattle.im_store.specs.Objects.{Name, Slot}
 use Rattle.im_block.specs.declared.code.Place.{Place}
 use Rattle.im_block.specs.declared.code.Place.TheVariants.{Static, Local, Through}
 use Rattle.im_block.specs.declared.code.Line.{Line}
-use Rattle.im_block.specs.declared.code.Line.TheVariants.{Put, PutNull, Copy, Convert, Unary, Not, Compute, Compare, Move, Distance, Address, Read, Write, Reload, Spill, Cut, Call, GetChar, PutChar}
+use Rattle.im_block.specs.declared.code.Line.TheVariants.{Put, PutNull, Copy, Convert, Unary, Not, Compute, Compare, Move, Distance, Address, Read, Write, Reload, Spill, Cut, Call, Serve}
 use Rattle.im_alloc_relation.specs.Live.{uses, sets, place_uses}
 use Rattle.im_select.specs.Emitted.{high_of, low_of, constant_code, displaced_code, displaced_base, place_number, place_code, place_base, moved_code, copied_code, compared_code, shifted_code, step_op, shift_of, multiplied_code, shifts_code, scaled_code, pointer_code, based_code, address_code, line_code}
 use Rattle.im_saved_lines.specs.Scan.{way}
@@ -27,8 +27,8 @@ use Rattle.im_saved_lines.proofs.Plain.{operation_way, less_way, load_way, store
 abbrev pub IsWork : Line → Type 0
 IsWork (Cut cause) = ⊥
 IsWork (Call to i first count) = ⊥
-IsWork (GetChar to) = ⊥
-IsWork (PutChar to from) = ⊥
+IsWork (Serve to service None) = ⊥
+IsWork (Serve to service (Some from)) = ⊥
 IsWork line = Unit {0}
 
 srl_way : (b : Bool) → way (if b then Srai else Srli) ≡ Passes
@@ -101,8 +101,8 @@ work_plain at m (Reload to slot access) work = plain_append (displaced_code 2 (a
 work_plain at m (Spill slot from access) work = plain_append (displaced_code 2 (at (Slot slot))) _ (displaced_plain 2 (at (Slot slot))) ((refl, refl), tt)
 work_plain at m (Cut cause) work = absurd work
 work_plain at m (Call to i first count) work = absurd work
-work_plain at m (GetChar to) work = absurd work
-work_plain at m (PutChar to from) work = absurd work
+work_plain at m (Serve to service None) work = absurd work
+work_plain at m (Serve to service (Some from)) work = absurd work
 
 -- ---- what they want
 
@@ -316,5 +316,5 @@ work_wants at m (Spill slot from access) work X r u w =
     sets_none X r u (r == from) (spilled_of X r u n from (displaced_wants 2 n _ r u (wants_append (displaced_code 2 n) _ X r w)))
 work_wants at m (Cut cause) work X r u w = absurd work
 work_wants at m (Call to i first count) work X r u w = absurd work
-work_wants at m (GetChar to) work X r u w = absurd work
-work_wants at m (PutChar to from) work X r u w = absurd work
+work_wants at m (Serve to service None) work X r u w = absurd work
+work_wants at m (Serve to service (Some from)) work X r u w = absurd work

@@ -1,12 +1,12 @@
 -- What is put for a line depends on the places of the objects that the line names alone.
 use Rattle.std.proofs.Common.{◌≡◌, ◌<◌, ℕ, ◌+◌, ◌-◌, ◌*◌, ◌^◌, true, false, length, refl, sym, ap, subst, arith}
-use Rattle.std.specs.Prelude.{nat_lt, if◌then◌else◌, slice_index}
+use Rattle.std.specs.Prelude.{nat_lt, if◌then◌else◌, slice_index, Some, None}
 use Rattle.std.proofs.lemmas.Bool.Decides.{nat_tests}
 use Rattle.im_store.specs.Objects.{Named}
 use Rattle.im_block.specs.declared.code.Place.{Place}
 use Rattle.im_block.specs.declared.code.Place.TheVariants.{Static, Local, Through}
 use Rattle.im_block.specs.declared.code.Line.{Line}
-use Rattle.im_block.specs.declared.code.Line.TheVariants.{Put, PutNull, Copy, Convert, Unary, Not, Compute, Compare, Move, Distance, Address, Read, Write, Reload, Spill, Cut, Call, GetChar, PutChar}
+use Rattle.im_block.specs.declared.code.Line.TheVariants.{Put, PutNull, Copy, Convert, Unary, Not, Compute, Compare, Move, Distance, Address, Read, Write, Reload, Spill, Cut, Call, Serve}
 use Rattle.im_alloc_placed.specs.Operands.{PlaceExists}
 use Rattle.im_alloc_placed.specs.Placed.{IsPlacedLine}
 use Rattle.im_select.specs.Given.{Given}
@@ -40,8 +40,8 @@ line_same names w m g (Reload to slot access) h = ap (λ z. reload_code to z acc
 line_same names w m g (Spill slot from access) h = ap (λ z. spill_code z from access) (sym (g.slots slot h.1))
 line_same names w m g (Cut cause) h = refl
 line_same names w m g (Call to i first count) h = refl
-line_same names w m g (GetChar to) h = refl
-line_same names w m g (PutChar to from) h = refl
+line_same names w m g (Serve to service None) h = refl
+line_same names w m g (Serve to service (Some from)) h = refl
 
 place_low : (names : Given) → HasPlaces names → (place : Place) → PlaceExists (length names.statics) names.function place → place_number (at_of names) place < 2 ^ 32
 place_low names p (Static object offset) h =
@@ -85,5 +85,5 @@ words_in names w p g (Reload to slot access) h = subst (λ z. z < 2 ^ 32) (sym (
 words_in names w p g (Spill slot from access) h = subst (λ z. z < 2 ^ 32) (sym (g.slots slot h.1)) (slot_low names p slot h.1)
 words_in names w p g (Cut cause) h = tt
 words_in names w p g (Call to i first count) h = tt
-words_in names w p g (GetChar to) h = tt
-words_in names w p g (PutChar to from) h = tt
+words_in names w p g (Serve to service None) h = tt
+words_in names w p g (Serve to service (Some from)) h = tt

@@ -14,7 +14,7 @@ use Rattle.im_store.specs.Objects.{Name, Slot}
 use Rattle.im_block.specs.declared.code.Place.{Place}
 use Rattle.im_block.specs.declared.code.Place.TheVariants.{Static, Local, Through}
 use Rattle.im_block.specs.declared.code.Line.{Line}
-use Rattle.im_block.specs.declared.code.Line.TheVariants.{Put, PutNull, Copy, Convert, Unary, Not, Compute, Compare, Move, Distance as Measure, Address, Read, Write, Reload, Spill, Cut, Call, GetChar, PutChar}
+use Rattle.im_block.specs.declared.code.Line.TheVariants.{Put, PutNull, Copy, Convert, Unary, Not, Compute, Compare, Move, Distance as Measure, Address, Read, Write, Reload, Spill, Cut, Call, Serve}
 use Rattle.im_block.specs.declared.code.Exit.{Exit}
 use Rattle.im_block.specs.declared.code.Exit.TheVariants.{Jump, Turn, Branch, Return}
 use Rattle.im_block.specs.declared.code.Block.{Block}
@@ -120,8 +120,8 @@ few at m (Reload to slot access) h = let ys : List CodeLine = numbered access (w
 few at m (Spill slot from access) h = let ys : List CodeLine = numbered access (storing Sw (displaced_base 2 (at (Slot slot))) from (low_of (at (Slot slot)))) ∷ [] in let q = then_few (displaced_code 2 (at (Slot slot))) ys 2 1 (displaced_few 2 (at (Slot slot))) (omega arith) in omega arith
 few at m (Cut cause) h = absurd (h tt)
 few at m (Call to i first count) h = omega arith
-few at m (GetChar to) h = omega arith
-few at m (PutChar to from) h = omega arith
+few at m (Serve to service None) h = omega arith
+few at m (Serve to service (Some from)) h = omega arith
 
 -- a cut is paid by what stands behind it
 pub record Paid (at : Name → ℕ) (m : ℕ → ℕ) (j : ℕ) (lines : List Line) : Type 0 where

@@ -10,8 +10,9 @@ use Rattle.im_rv.specs.Lines.{CodeLine}
 use Rattle.im_store.specs.declared.operators.UnaryOp.TheVariants.{Negate, Complement}
 use Rattle.im_store.specs.declared.operators.Comparison.TheVariants.{Less, Greater, LessOrEqual, GreaterOrEqual, Equal, NotEqual}
 use Rattle.im_store.specs.Objects.{Name, Slot}
+use Rattle.im_serve.specs.declared.service.Service.TheVariants.{Getchar, Putchar}
 use Rattle.im_block.specs.declared.code.Line.{Line}
-use Rattle.im_block.specs.declared.code.Line.TheVariants.{Put, PutNull, Copy, Convert, Unary, Not, Compute, Compare, Move, Distance as Measure, Address, Read, Write, Reload, Spill, Cut, Call, GetChar, PutChar}
+use Rattle.im_block.specs.declared.code.Line.TheVariants.{Put, PutNull, Copy, Convert, Unary, Not, Compute, Compare, Move, Distance as Measure, Address, Read, Write, Reload, Spill, Cut, Call, Serve}
 use Rattle.im_block.specs.declared.code.Exit.{Exit}
 use Rattle.im_block.specs.declared.code.Exit.TheVariants.{Jump, Turn, Branch, Return}
 use Rattle.im_block.specs.declared.code.Block.{Block}
@@ -80,8 +81,10 @@ line_sound names whole at m (Reload to slot access) o h = both names whole (disp
 line_sound names whole at m (Spill slot from access) o h = both names whole (displaced_code 2 (at (Slot slot))) _ (bare names whole (displaced_code 2 (at (Slot slot))) (displaced_bare 2 (at (Slot slot)))) (silent names whole _ refl refl)
 line_sound names whole at m (Cut cause) o h = ((refl, tt), ((λ l e. leads names whole m _ refl (inl o) l e), tt))
 line_sound names whole at m (Call to i first count) o h = ((refl, tt), ((λ l e. leads names whole (entry_label i) _ refl (inr (inr (inr (inr (inl (i, h, refl)))))) l e), tt))
-line_sound names whole at m (GetChar to) o h = ((refl, tt), ((λ l e. leads names whole 32 _ refl (inr (inl refl)) l e), tt))
-line_sound names whole at m (PutChar to from) o h = ((refl, tt), ((λ l e. leads names whole 33 _ refl (inr (inr (inl refl))) l e), tt))
+line_sound names whole at m (Serve to Getchar None) o h = ((refl, tt), ((λ l e. leads names whole 32 _ refl (inr (inl refl)) l e), tt))
+line_sound names whole at m (Serve to Getchar (Some from)) o h = ((refl, tt), ((λ l e. leads names whole 32 _ refl (inr (inl refl)) l e), tt))
+line_sound names whole at m (Serve to Putchar None) o h = ((refl, tt), ((λ l e. leads names whole 33 _ refl (inr (inr (inl refl))) l e), tt))
+line_sound names whole at m (Serve to Putchar (Some from)) o h = ((refl, tt), ((λ l e. leads names whole 33 _ refl (inr (inr (inl refl))) l e), tt))
 
 lines_sound : (names : Given) (whole : List CodeLine) (at : Name → ℕ) (m : ℕ → ℕ) (j : ℕ) (lines : List Line) → ((j : ℕ) → IsEntry (m j)) → All (CallsBelow names.functions) lines → Sound names whole (lines_code at m j lines)
 lines_sound names whole at m j [] o h = (tt, tt)

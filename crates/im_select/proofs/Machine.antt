@@ -6,7 +6,7 @@ use Rattle.im_store.specs.Objects.{Name}
 use Rattle.im_block.specs.declared.code.Place.{Place}
 use Rattle.im_block.specs.declared.code.Place.TheVariants.{Static, Local, Through}
 use Rattle.im_block.specs.declared.code.Line.{Line}
-use Rattle.im_block.specs.declared.code.Line.TheVariants.{Put, PutNull, Copy, Convert, Unary, Not, Compute, Compare, Move, Distance, Address, Read, Write, Reload, Spill, Cut, Call, GetChar, PutChar}
+use Rattle.im_block.specs.declared.code.Line.TheVariants.{Put, PutNull, Copy, Convert, Unary, Not, Compute, Compare, Move, Distance, Address, Read, Write, Reload, Spill, Cut, Call, Serve}
 use Rattle.im_block.specs.declared.code.Exit.{Exit}
 use Rattle.im_block.specs.declared.code.Exit.TheVariants.{Jump, Turn, Branch, Return}
 use Rattle.im_block.specs.declared.code.Block.{Block}
@@ -45,8 +45,8 @@ line_machine statics f (Reload to slot access) h = h.0.1
 line_machine statics f (Spill slot from access) h = h.0.1
 line_machine statics f (Cut cause) h = tt
 line_machine statics f (Call to i first count) h = let a = h.1 in let b = h.2 in omega arith
-line_machine statics f (GetChar to) h = tt
-line_machine statics f (PutChar to from) h = let a = h.1 in omega arith
+line_machine statics f (Serve to service None) h = tt
+line_machine statics f (Serve to service (Some from)) h = let a = h.1 in omega arith
 
 exit_machine : (count : ℕ) (exit : Exit) → IsPlacedExit exit → ExitThere count exit → IsMachineExit count exit
 exit_machine count (Jump b) h t = t

@@ -9,7 +9,7 @@ use Rattle.im_store.specs.declared.operators.UnaryOp.TheVariants.{Negate, Comple
 use Rattle.im_store.specs.declared.operators.Comparison.TheVariants.{Less, Greater, LessOrEqual, GreaterOrEqual, Equal, NotEqual}
 use Rattle.im_store.specs.Objects.{Name, Slot}
 use Rattle.im_block.specs.declared.code.Line.{Line}
-use Rattle.im_block.specs.declared.code.Line.TheVariants.{Put, PutNull, Copy, Convert, Unary, Not, Compute, Compare, Move, Distance as Measure, Address, Read, Write, Reload, Spill, Cut, Call, GetChar, PutChar}
+use Rattle.im_block.specs.declared.code.Line.TheVariants.{Put, PutNull, Copy, Convert, Unary, Not, Compute, Compare, Move, Distance as Measure, Address, Read, Write, Reload, Spill, Cut, Call, Serve}
 use Rattle.im_block.specs.declared.code.Exit.{Exit}
 use Rattle.im_block.specs.declared.code.Exit.TheVariants.{Jump, Turn, Branch, Return}
 use Rattle.im_block.specs.declared.code.Block.{Block}
@@ -52,8 +52,8 @@ line_accesses at m (Reload to slot access) = accesses_behind (displaced_code 2 (
 line_accesses at m (Spill slot from access) = accesses_behind (displaced_code 2 (at (Slot slot))) _ (displaced_bare 2 (at (Slot slot)))
 line_accesses at m (Cut cause) = refl
 line_accesses at m (Call to i first count) = refl
-line_accesses at m (GetChar to) = refl
-line_accesses at m (PutChar to from) = refl
+line_accesses at m (Serve to service None) = refl
+line_accesses at m (Serve to service (Some from)) = refl
 
 line_causes : (at : Name → ℕ) (m : ℕ) (line : Line) → causes_in (line_code at m line) ≡ causes_of_line line
 line_causes at m (Put to z) = bare_causes (constant_code to (word z)) (constant_bare to (word z))
@@ -85,8 +85,8 @@ line_causes at m (Reload to slot access) = causes_behind (displaced_code 2 (at (
 line_causes at m (Spill slot from access) = causes_behind (displaced_code 2 (at (Slot slot))) _ (displaced_bare 2 (at (Slot slot)))
 line_causes at m (Cut cause) = refl
 line_causes at m (Call to i first count) = refl
-line_causes at m (GetChar to) = refl
-line_causes at m (PutChar to from) = refl
+line_causes at m (Serve to service None) = refl
+line_causes at m (Serve to service (Some from)) = refl
 
 lines_accesses : (at : Name → ℕ) (m : ℕ → ℕ) (j : ℕ) (lines : List Line) → accesses_in (lines_code at m j lines) ≡ accesses_of_lines lines
 lines_accesses at m j [] = refl

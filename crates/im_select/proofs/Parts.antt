@@ -109,7 +109,7 @@ taken_in w given live starts distance next bare k frame tail exit taken is g sma
     let blocks : List Block = given.function.blocks.items in
     let p = All-head (IsPlacedLine (length given.statics) given.function) (Compare to op kind left right) [] h.placed in
     let low : to < 32 = p.0.1 in
-    inr (Decides to op kind left right x y p.1 p.2 p.3 (dead_from blocks live x to is low da) (dead_from blocks live y to is low db) (branch_in w given starts k distance next (Compares op kind left right) x y g h.edges.0 h.edges.1 follows a))
+    inr (inl (Decides to op kind left right x y p.1 p.2 p.3 (dead_from blocks live x to is low da) (dead_from blocks live y to is low db) (branch_in w given starts k distance next (Compares op kind left right) x y g h.edges.0 h.edges.1 follows a)))
 
 pub stands_in : (w : Lines) (given : Given) (live : ℕ → ℕ → Bool) (starts : ℕ → ℕ) (own : Name → ℕ) (m : ℕ → ℕ) (distance : Distance) (next : Option ℕ) (bare : Bool) (j k frame : ℕ) (lines tail : List Line) (exit : Exit) (taken : Option Test) → ((j : ℕ) → IsEntry (m j)) → IsLive given.function.blocks.items live → Agrees w given → frame < 2 ^ 32 → Alike own w.at (length given.statics) given.function → IsBlockOf given (lines ++ tail) exit → IsTaken live tail exit taken → Follows given starts next (after k (lines_code own m j lines ++ exit_code distance next bare given.first_block frame taken exit)) → At w k (lines_code own m j lines ++ exit_code distance next bare given.first_block frame taken exit) → StandsIn w given.function.blocks.items starts frame k (lines ++ tail) exit
 stands_in w given live starts own m distance next bare j k frame [] tail exit taken o is g small alike h t follows a = taken_in w given live starts distance next bare k frame tail exit taken is g small h t follows a

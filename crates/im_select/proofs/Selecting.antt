@@ -10,10 +10,11 @@ use Rattle.im_select_operators.proofs.Words.{word_small}
 use Rattle.im_store.specs.declared.operators.UnaryOp.TheVariants.{Negate, Complement}
 use Rattle.im_store.specs.declared.operators.Comparison.TheVariants.{Less as LessThan, Greater, LessOrEqual, GreaterOrEqual, Equal, NotEqual}
 use Rattle.im_store.specs.Objects.{Name, Named, Slot}
+use Rattle.im_serve.specs.declared.service.Service.TheVariants.{Getchar, Putchar}
 use Rattle.im_block.specs.declared.code.Place.{Place}
 use Rattle.im_block.specs.declared.code.Place.TheVariants.{Static, Local, Through}
 use Rattle.im_block.specs.declared.code.Line.{Line}
-use Rattle.im_block.specs.declared.code.Line.TheVariants.{Put, PutNull, Copy, Convert, Unary, Not, Compute, Compare, Move, Distance, Address, Read, Write, Reload, Spill, Cut, Call, GetChar, PutChar}
+use Rattle.im_block.specs.declared.code.Line.TheVariants.{Put, PutNull, Copy, Convert, Unary, Not, Compute, Compare, Move, Distance, Address, Read, Write, Reload, Spill, Cut, Call, Serve}
 use Rattle.im_alloc_placed.specs.Operands.{PlaceAtHome}
 use Rattle.im_alloc_placed.specs.Placed.{IsPlacedLine}
 use Rattle.im_select_relation.specs.Symbolic.{Lines, HasLine, Plain, Aimed, ConstantIn, Small, Large, DisplacedIn, Near, Far, BasedIn, InFrame, InStatic, Behind, AddsIn, Short, Long, Lesser, Larger, NotLarger, NotLesser, Same, Other, Whole, Already, Moved, CopiedIn, Narrowed, Masked, Bytes, Shifted, Multiplied, ScaledIn, SelectedIn, Numbers, Nulls, Copies, Converts, Negates, Complements, Nots, Computes, Compares, Moves, Measures, Addresses, AddressesPage, Fetches, StoresValue, Reloads, Spills, Cuts_, Calls, Gets, Puts_}
@@ -174,7 +175,9 @@ selected_in w given k m o g (Cut cause) h c s a = Cuts_ cause m o (subst (λ z. 
 selected_in w given k m o g (Call to i base count) h c s a =
     let call : Aimed w k (jumping 1 0) (w.entry i) = subst (Aimed w k (jumping 1 0)) (sym (g.entries i c)) a.0 in
     subst (λ z. SelectedIn w k (Call z i base count) (suc k)) (sym h.0) (subst (λ z. SelectedIn w k (Call 10 i z count) (suc k)) (sym h.1) (Calls i count call))
-selected_in w given k m o g (GetChar to) h c s a = subst (λ z. SelectedIn w k (GetChar z) (suc k)) (sym h) (Gets (subst (Aimed w k (jumping 1 0)) (sym g.gets) a.0))
-selected_in w given k m o g (PutChar to from) h c s a =
+selected_in w given k m o g (Serve to Getchar None) h c s a = subst (λ z. SelectedIn w k (Serve z Getchar None) (suc k)) (sym h.0) (Gets (subst (Aimed w k (jumping 1 0)) (sym g.gets) a.0))
+selected_in w given k m o g (Serve to Putchar None) h c s a = absurd h.1
+selected_in w given k m o g (Serve to Getchar (Some from)) h c s a = absurd h.2
+selected_in w given k m o g (Serve to Putchar (Some from)) h c s a =
     let call : Aimed w k (jumping 1 0) w.puts = subst (Aimed w k (jumping 1 0)) (sym g.puts) a.0 in
-    subst (λ z. SelectedIn w k (PutChar z from) (suc k)) (sym h.0) (subst (λ z. SelectedIn w k (PutChar 10 z) (suc k)) (sym h.1) (Puts_ call))
+    subst (λ z. SelectedIn w k (Serve z Putchar (Some from)) (suc k)) (sym h.0) (subst (λ z. SelectedIn w k (Serve 10 Putchar (Some z)) (suc k)) (sym h.1) (Puts_ call))

@@ -19,7 +19,7 @@ use Rattle.im_store.specs.Objects.{Name, Named, Slot}
 use Rattle.im_block.specs.declared.code.Place.{Place}
 use Rattle.im_block.specs.declared.code.Place.TheVariants.{Static, Local, Through}
 use Rattle.im_block.specs.declared.code.Line.{Line}
-use Rattle.im_block.specs.declared.code.Line.TheVariants.{Put, PutNull, Copy, Convert, Unary, Not, Compute, Compare, Move, Distance as Measure, Address, Read, Write, Reload, Spill, Cut, Call, GetChar, PutChar}
+use Rattle.im_block.specs.declared.code.Line.TheVariants.{Put, PutNull, Copy, Convert, Unary, Not, Compute, Compare, Move, Distance as Measure, Address, Read, Write, Reload, Spill, Cut, Call, Serve}
 use Rattle.im_block.specs.declared.code.Exit.{Exit}
 use Rattle.im_block.specs.declared.code.Exit.TheVariants.{Jump, Turn, Branch, Return}
 use Rattle.im_block.specs.declared.code.Block.{Block}
@@ -28,7 +28,7 @@ use Rattle.im_select.specs.declared.branching.Test.{Test}
 use Rattle.im_select.specs.declared.branching.Test.TheVariants.{Nonzero, Compares}
 use Rattle.im_select.specs.declared.distance.Distance.{Distance}
 use Rattle.im_select.specs.declared.distance.Distance.TheVariants.{Near, Far}
-use Rattle.im_rtlib.specs.Routines.{getchar_label, putchar_label, stack_label, aimed, numbered}
+use Rattle.im_rtlib.specs.Routines.{service_label, stack_label, aimed, numbered}
 
 -- the labels of functions; those below 64 are the runtime's
 abbrev pub entry_label : ℕ → ℕ
@@ -217,8 +217,7 @@ line_code at m (Reload to slot access) = reload_code to (at (Slot slot)) access
 line_code at m (Spill slot from access) = spill_code (at (Slot slot)) from access
 line_code at m (Cut cause) = cut_code m cause
 line_code at m (Call to function first count) = call_code 1 (entry_label function)
-line_code at m (GetChar to) = call_code 1 getchar_label
-line_code at m (PutChar to from) = call_code 1 putchar_label
+line_code at m (Serve to service from) = call_code 1 (service_label service)
 
 -- lines from number j on; m: the entries of a block's lines
 abbrev pub lines_code : (Name → ℕ) → (ℕ → ℕ) → ℕ → List Line → List CodeLine

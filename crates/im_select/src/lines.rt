@@ -17,7 +17,7 @@ use crate::words::{push_constant, register, to_word};
 use im_block::Line as Placed;
 use im_live::entry_for;
 use im_num::NoMemory;
-use im_rtlib::{FIRST_FREE, GETCHAR, PUTCHAR};
+use im_rtlib::{FIRST_FREE, service_label};
 use im_rv::Line;
 
 /// The lines of one line of placed code. A cut has the entry.
@@ -84,8 +84,7 @@ pub(crate) fn push_line(
         Placed::Spill { slot, from, access } => push_spill(lines, names, slot, from, access),
         Placed::Cut(cause) => push_cut(lines, cause, entry),
         Placed::Call { function, .. } => push_jump(lines, 1, FIRST_FREE + function),
-        Placed::GetChar { .. } => push_jump(lines, 1, GETCHAR),
-        Placed::PutChar { .. } => push_jump(lines, 1, PUTCHAR),
+        Placed::Serve { service, .. } => push_jump(lines, 1, service_label(service)),
     }
 }
 

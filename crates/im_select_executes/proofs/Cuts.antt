@@ -6,11 +6,11 @@ use Rattle.im_num.specs.Kinds.{wrap}
 use Rattle.im_store.specs.Checks.{Checked, Fine, Bad}
 use Rattle.im_store.specs.Outcomes.{Outcome}
 use Rattle.im_block.specs.declared.code.Line.{Line}
-use Rattle.im_block.specs.declared.code.Line.TheVariants.{Put, PutNull, Copy, Convert, Unary, Not, Compute, Compare, Move, Distance, Address, Read, Write, Reload, Spill, Cut, Call, GetChar, PutChar}
+use Rattle.im_block.specs.declared.code.Line.TheVariants.{Put, PutNull, Copy, Convert, Unary, Not, Compute, Compare, Move, Distance, Address, Read, Write, Reload, Spill, Cut, Call, Serve}
 use Rattle.im_block.specs.declared.code.Exit.{Exit}
 use Rattle.im_block.specs.declared.code.Exit.TheVariants.{Jump, Turn, Branch, Return}
 use Rattle.im_block.specs.declared.unit.Unit.{Unit as Code}
-use Rattle.im_block.specs.Meaning.{Setting, Event, Reads, Writes, Tests, Saves, Restores, Serves, Cuts, Frame, State, Next, Goes, Stops, on_checked, takes, found, number_of, condition, Found, Left, Site, enters, waiting, next_active, gets, puts, goes_to, back, leaves, does, step_at, step, computes, reads, writes}
+use Rattle.im_block.specs.Meaning.{Setting, Event, Reads, Writes, Tests, Saves, Restores, Serves, Cuts, Frame, State, Next, Goes, Stops, on_checked, takes, found, number_of, condition, Found, Left, Site, enters, waiting, next_active, served, argument, goes_to, back, leaves, does, step_at, step, computes, reads, writes}
 use Rattle.im_store.specs.Objects.{Value, Unset}
 use Rattle.im_block.specs.Runs.{Over, At, goes_on, exec, Runs, start, before}
 use Rattle.im_block.specs.Shape.{line_weight, next_weight, spot_weight, after, spent}
@@ -63,12 +63,8 @@ module _ (flips : ℕ) where
         (on_few (found (slice_get f.blocks.items f.entry)) _ 0 (λ block. omega arith))
         (omega arith))
 
-    gets_few : (to : ℕ) (rest : List Line) (input : List ℕ) (fuel : ℕ) (s : State) → passes (gets u g to rest input fuel s) ≤ flips
-    gets_few to rest [] fuel s = omega arith
-    gets_few to rest (byte ∷ input) fuel s = omega arith
-
-    puts_few : (to : ℕ) (rest : List Line) (byte fuel : ℕ) (s : State) → passes (puts u g to rest byte fuel s) ≤ flips
-    puts_few to rest byte fuel s = if_few (nat_lt (length s.output) g.capacity) _ _ flips (omega arith) (omega arith)
+    served_few : (to : ℕ) (v : Value) (rest : List Line) (input output : List ℕ) (fuel : ℕ) (s : State) → passes (served u g to v rest input output fuel s) ≤ flips
+    served_few to v rest input output fuel s = omega arith
 
     goes_few : (b fuel : ℕ) (s : State) → passes (goes_to u g b fuel s) ≤ 0
     goes_few b fuel s = on_few (found (slice_get u.functions.items s.frame.function)) _ 0 (λ f. on_few (found (slice_get f.blocks.items b)) _ 0 (λ block. omega arith))
@@ -111,12 +107,9 @@ module _ (flips : ℕ) where
     does_few p e (Spill slot from access) rest s = writes_few _ _ rest s
     does_few p e (Cut cause) rest s = omega arith
     does_few p e (Call to i first count) rest s = takes_few s.fuel s.output _ 0 (λ fuel. enters_few i first count s.frame.registers (waiting u g s.frame to rest ∷ s.callers) fuel s)
-    does_few p e (GetChar to) rest s =
-        let h : passes (does u g (GetChar to) rest s) ≤ flips = takes_few s.fuel s.output _ flips (λ fuel. gets_few to rest s.input fuel s) in
-        subst (λ n. passes (does u g (GetChar to) rest s) ≤ n) (let q : flips ≡ 0 + p.flips = omega arith in q) h
-    does_few p e (PutChar to from) rest s =
-        let h : passes (does u g (PutChar to from) rest s) ≤ flips = takes_few s.fuel s.output _ flips (λ fuel. on_few (number_of (s.frame.registers from)) _ flips (λ z. puts_few to rest (nat_abs (wrap U8 z)) fuel s)) in
-        subst (λ n. passes (does u g (PutChar to from) rest s) ≤ n) (let q : flips ≡ 0 + p.flips = omega arith in q) h
+    does_few p e (Serve to service from) rest s =
+        let h : passes (does u g (Serve to service from) rest s) ≤ flips = takes_few s.fuel s.output _ flips (λ fuel. on_few (argument from s.frame.registers) _ flips (λ z. served_few to _ rest _ _ fuel s)) in
+        subst (λ n. passes (does u g (Serve to service from) rest s) ≤ n) (let q : flips ≡ 0 + p.flips = omega arith in q) h
 
     step_few : (p : Linking) → p.flips ≡ flips → (rest : List Line) (s : State) → passes (step_at u g rest s) ≤ next_weight (cuts p) rest s.frame.spot.exit
     step_few p e [] s = leaves_few s.frame.spot.exit s

@@ -1,11 +1,11 @@
 -- The steps of placed code are few for its words, and the cuts too.
 use Rattle.std.proofs.Common.{ℕ, ◌+◌, ◌*◌, ◌≤◌, Bool, true, false, cond, List, [], ◌∷◌, arith}
-use Rattle.std.specs.Prelude.{◌==◌, ◌&&◌}
+use Rattle.std.specs.Prelude.{◌==◌, ◌&&◌, Some, None}
 use Rattle.im_num.specs.declared.kind.Kind.{Kind}
 use Rattle.im_num.specs.declared.kind.Kind.TheVariants.{I8, U8, I16, U16, I32, U32, Ptr}
 use Rattle.im_num.specs.Kinds.{kind_size}
 use Rattle.im_block.specs.declared.code.Line.{Line}
-use Rattle.im_block.specs.declared.code.Line.TheVariants.{Put, PutNull, Copy, Convert, Unary, Not, Compute, Compare, Move, Distance, Address, Read, Write, Reload, Spill, Cut, Call, GetChar, PutChar}
+use Rattle.im_block.specs.declared.code.Line.TheVariants.{Put, PutNull, Copy, Convert, Unary, Not, Compute, Compare, Move, Distance, Address, Read, Write, Reload, Spill, Cut, Call, Serve}
 use Rattle.im_block.specs.declared.code.Exit.{Exit}
 use Rattle.im_block.specs.declared.code.Exit.TheVariants.{Jump, Turn, Branch, Return}
 use Rattle.im_block.specs.declared.code.Block.{Block}
@@ -14,7 +14,7 @@ use Rattle.im_block.specs.declared.unit.Unit.{Unit as Code}
 use Rattle.im_block.specs.Shape.{narrowing, exit_words, sum_of, blocks_weight, total}
 use Rattle.im_select_relation.specs.Linking.{Linking}
 use Rattle.im_select_relation.specs.Law.{steps_of, steps}
-use Rattle.im_select_executes.specs.Executing.{line_words, block_words, function_words, cuts_in, cuts}
+use Rattle.im_select_executes.specs.Executing.{line_halves, block_words, function_words, cuts_in, cuts}
 
 narrow : (k : Kind) → narrowing k ≤ 2
 narrow I8 = omega arith
@@ -26,11 +26,11 @@ narrow U32 = omega arith
 narrow Ptr = omega arith
 
 -- a line that may be nothing
-nothing_or : (b : Bool) (n : ℕ) → n ≤ 39 → cond b 0 n ≤ 39 * cond b 0 1
+nothing_or : (b : Bool) (n : ℕ) → n ≤ 20 → cond b 0 n ≤ 20 * cond b 0 1
 nothing_or true n h = omega arith
 nothing_or false n h = omega arith
 
-few_line : (p : Linking) (line : Line) → steps_of p line ≤ 39 * line_words line
+few_line : (p : Linking) (line : Line) → steps_of p line ≤ 20 * line_halves line
 few_line p (Put to z) = omega arith
 few_line p (PutNull to) = omega arith
 few_line p (Copy to from) = nothing_or (to == from) 1 (omega arith)
@@ -48,8 +48,8 @@ few_line p (Reload to slot access) = omega arith
 few_line p (Spill slot from access) = omega arith
 few_line p (Cut cause) = omega arith
 few_line p (Call to i first count) = omega arith
-few_line p (GetChar to) = omega arith
-few_line p (PutChar to from) = omega arith
+few_line p (Serve to service None) = omega arith
+few_line p (Serve to service (Some from)) = omega arith
 
 few_exit : (exit : Exit) → exit_words exit ≤ 7
 few_exit (Jump b) = omega arith
@@ -58,7 +58,7 @@ few_exit (Branch on x y) = omega arith
 few_exit (Return from) = omega arith
 
 module _ (p : Linking) (short : p.longest ≤ 120) where
-  few_lines : (lines : List Line) → sum_of (steps_of p) lines ≤ 39 * sum_of line_words lines
+  few_lines : (lines : List Line) → sum_of (steps_of p) lines ≤ 20 * sum_of line_halves lines
   few_lines [] = omega arith
   few_lines (line ∷ lines) = let a = few_line p line in let b = few_lines lines in omega arith
 
@@ -79,11 +79,11 @@ module _ (p : Linking) (short : p.longest ≤ 120) where
 
 -- cuts
 
-one_cut : (line : Line) → cuts_in line ≤ line_words line
+one_cut : (line : Line) → 2 * cuts_in line ≤ line_halves line
 one_cut (Cut cause) = omega arith
 one_cut line = omega arith
 
-cuts_lines : (lines : List Line) → sum_of cuts_in lines ≤ sum_of line_words lines
+cuts_lines : (lines : List Line) → 2 * sum_of cuts_in lines ≤ sum_of line_halves lines
 cuts_lines [] = omega arith
 cuts_lines (line ∷ lines) = let a = one_cut line in let b = cuts_lines lines in omega arith
 

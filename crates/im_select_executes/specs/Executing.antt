@@ -1,5 +1,5 @@
 -- What an image owes beside the law of selection, for the device's run to follow its placed code.
-use Rattle.std.specs.Prelude.{◌≡◌, ℕ, ◌+◌, ◌≤◌, Bool, if◌then◌else◌, List, length, max, ℤ}
+use Rattle.std.specs.Prelude.{◌≡◌, ℕ, ◌+◌, ◌/◌, ◌≤◌, Bool, if◌then◌else◌, List, length, max, ℤ}
 use Rattle.im_num.specs.Variables.{Variable}
 use Rattle.im_rv.specs.Steps.{Cpu}
 use Rattle.im_image.specs.Contents.{ImageValue}
@@ -25,12 +25,13 @@ use Rattle.im_saved.specs.Liveness.{IsLiveness, EntersByCuts}
 abbrev pub first_cpu : ImageValue → List ℕ → Cpu
 first_cpu image input = (run_of image input 0).cpu
 
--- each line has a word at least, unless it is nothing, and so have each block and each entry
-abbrev pub line_words : Line → ℕ
-line_words line = if is_nothing line then 0 else 1
+-- each line has half a word at least, unless it is nothing, since two may be one; a cut has one, and so have each block and each entry
+abbrev pub line_halves : Line → ℕ
+line_halves (Cut cause) = 2
+line_halves line = if is_nothing line then 0 else 1
 
 abbrev pub block_words : Block → ℕ
-block_words b = max 1 (sum_of line_words b.lines.items)
+block_words b = max 1 ((sum_of line_halves b.lines.items + 1) / 2)
 
 abbrev pub function_words : Function → ℕ
 function_words f = 1 + sum_of block_words f.blocks.items

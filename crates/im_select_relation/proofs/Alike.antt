@@ -1,6 +1,6 @@
 -- A step of placed code reads registers that live alone: where those have the same values, two states step alike.
 use Rattle.std.proofs.Common.{◌≡◌, ◌≢◌, ℕ, zero, suc, ◌+◌, ◌-◌, ◌<◌, inl, inr, Bool, true, false, cond, List, [], ◌∷◌, Some, None, sym, ap, ◌∙◌, subst, refl, arith}
-use Rattle.std.specs.Prelude.{◌==◌, ◌&&◌, ◌||◌, not, nat_le, nat_lt, nat_abs, length, slice_get}
+use Rattle.std.specs.Prelude.{◌==◌, ◌&&◌, ◌||◌, not, nat_le, nat_lt, nat_abs, length, slice_get, pos}
 use Rattle.std.proofs.lemmas.Bool.{or_right}
 use Rattle.std.proofs.lemmas.Bool.Decides.{nat_tests}
 use Rattle.im_num.specs.declared.kind.Kind.{Kind}
@@ -10,16 +10,18 @@ use Rattle.im_store.specs.Checks.{Checked, Fine, Bad, then_}
 use Rattle.im_store.specs.Access.{read_cell, write_cell}
 use Rattle.im_store.specs.Objects.{Value, Number, Null, Unset}
 use Rattle.im_store.specs.Outcomes.{Outcome, Undef}
+use Rattle.im_serve.specs.declared.service.Service.{Service}
+use Rattle.im_serve.specs.Services.{serve}
 use Rattle.im_block.specs.declared.code.Place.{Place}
 use Rattle.im_block.specs.declared.code.Place.TheVariants.{Static, Local, Through}
 use Rattle.im_block.specs.declared.code.Line.{Line}
-use Rattle.im_block.specs.declared.code.Line.TheVariants.{Put, PutNull, Copy, Convert, Unary, Not, Compute, Compare, Move, Distance, Address, Read, Write, Reload, Spill, Cut, Call, GetChar, PutChar}
+use Rattle.im_block.specs.declared.code.Line.TheVariants.{Put, PutNull, Copy, Convert, Unary, Not, Compute, Compare, Move, Distance, Address, Read, Write, Reload, Spill, Cut, Call, Serve}
 use Rattle.im_block.specs.declared.code.Exit.{Exit}
 use Rattle.im_block.specs.declared.code.Exit.TheVariants.{Jump, Turn, Branch, Return}
 use Rattle.im_block.specs.declared.code.Block.{Block}
 use Rattle.im_block.specs.declared.unit.Function.{Function}
 use Rattle.im_block.specs.declared.unit.Unit.{Unit as Code}
-use Rattle.im_block.specs.Meaning.{Setting, Site, site_of, slot_site, slot_of, Found, Left, Frame, State, Next, Goes, Stops, Event, on_checked, takes, found, with_register, with_rest, kept_by, passed, computes, reads, writes, as_number, as_truth, converted, computed_one, computed, compared, negation, condition, moved, distance_of, place_of, write_place, write_slot, number_of, at_block, waiting, enters, gets, puts, further, location_of, found_in, left_in, stored, served, does, goes_to, back, leaves, next_active}
+use Rattle.im_block.specs.Meaning.{Setting, Site, site_of, slot_site, slot_of, Found, Left, Frame, State, Next, Goes, Stops, Event, on_checked, takes, found, with_register, with_rest, kept_by, passed, computes, reads, writes, as_number, as_truth, converted, computed_one, computed, compared, negation, condition, moved, distance_of, place_of, write_place, write_slot, number_of, at_block, waiting, enters, serves, further, location_of, found_in, left_in, stored, served, does, goes_to, back, leaves, next_active}
 use Rattle.im_alloc_relation.specs.Live.{uses, place_uses}
 use Rattle.im_live.specs.Reads.{reads as reads_of, writes as writes_of, lives_before, lives_in, reads_first}
 use Rattle.im_select_relation.specs.Linking.{Linking}
@@ -51,7 +53,7 @@ same_function i u f h a b = let e = sym a ∙ b in cc
 pub alike_in : (u : Code) (s : State) (registers : ℕ → Value) (f : Function) → slice_get u.functions.items s.frame.function ≡ Some f → AlikeAt f.blocks.items s.frame.spot.rest s.frame.spot.exit s.frame.registers registers → Alike u s registers
 alike_in u s registers f is a h is' = subst (λ (z : Function). AlikeAt z.blocks.items s.frame.spot.rest s.frame.spot.exit s.frame.registers registers) (same_function s.frame.function u f h is is') a
 
-checked_both : {A : Type 0} (u : Code) (c c' : Checked A) (go go' : A → Next) → c' ≡ c → ((a : A) → c ≡ Fine a → Both u (go a) (go' a)) → Both u (on_checked c go) (on_checked c' go')
+pub checked_both : {A : Type 0} (u : Code) (c c' : Checked A) (go go' : A → Next) → c' ≡ c → ((a : A) → c ≡ Fine a → Both u (go a) (go' a)) → Both u (on_checked c go) (on_checked c' go')
 checked_both {A} u c c' go go' e h = subst (λ z. Both u (on_checked c go) (on_checked z go')) (sym e) (by c h)
   where
     by : (c : Checked A) → ((a : A) → c ≡ Fine a → Both u (go a) (go' a)) → Both u (on_checked c go) (on_checked c go')
@@ -71,7 +73,7 @@ cond_both u false x y x' y' h k = k
 same_is : (r : ℕ) → (r == r) ≡ true
 same_is r = grind (arith, nat_tests)
 
-used_lives : (live : ℕ → ℕ → Bool) (line : Line) (rest : List Line) (exit : Exit) (r : ℕ) → uses line r ≡ true → lives_before live (line ∷ rest) exit r ≡ true
+pub used_lives : (live : ℕ → ℕ → Bool) (line : Line) (rest : List Line) (exit : Exit) (r : ℕ) → uses line r ≡ true → lives_before live (line ∷ rest) exit r ≡ true
 used_lives live line rest exit r e = by (uses line r) _ _ e
   where
     by : (a b c : Bool) → a ≡ true → ((a || b) || c) ≡ true
@@ -140,10 +142,6 @@ module _ (u : Code) (g : Setting) (s : State) (registers : ℕ → Value) (f : F
         Going (record s { frame = record (with_rest s.frame rest) { registers = with_register (kept_by (slice_get u.functions.items s.frame.function) s.frame.registers) to v }; input = input; output = output; fuel = fuel })
         (with_register (kept_by (slice_get u.functions.items s.frame.function) registers) to v) _ (λ h is' r n k. ap (λ (z : ℕ → Value). with_register z to v r) lost)
 
-    gets_both : (rest : List Line) (to : ℕ) (input : List ℕ) (fuel : ℕ) → Both u (gets u g to rest input fuel s) (gets u g to rest input fuel (shaded s registers))
-    gets_both rest to [] fuel = served_both rest to _ [] s.output fuel
-    gets_both rest to (byte ∷ input) fuel = served_both rest to _ input s.output fuel
-
     passed_same : (to first count r : ℕ) → ((v : ℕ) → (nat_le first v && nat_lt v (first + count)) ≡ true → registers v ≡ s.frame.registers v) → passed to first count registers r ≡ passed to first count s.frame.registers r
     passed_same to first count r h = by (nat_le to r) refl (nat_lt r (to + count)) refl
       where
@@ -166,8 +164,10 @@ module _ (u : Code) (g : Setting) (s : State) (registers : ℕ → Value) (f : F
             Going _ (passed q.first_parameter first count registers) _ (λ x isx r n k. passed_same q.first_parameter first count r (λ v e. operand f.blocks.items (Call to i first count) rest s.frame.spot.exit s.frame.registers registers v h e))))
             (Ending _ _))
 
-    bytes_both : (to from : ℕ) (rest : List Line) (less : ℕ) → registers from ≡ s.frame.registers from → Both u (on_checked (number_of (s.frame.registers from)) (λ z. puts u g to rest (nat_abs (wrap U8 z)) less s)) (on_checked (number_of (registers from)) (λ z. puts u g to rest (nat_abs (wrap U8 z)) less (shaded s registers)))
-    bytes_both to from rest less e = checked_both u _ _ _ _ (ap number_of e) (λ z k. cond_both u (nat_lt (length s.output) g.capacity) _ _ _ _ (served_both rest to _ s.input _ less) (served_both rest to _ s.input s.output less))
+    bytes_both : (to from : ℕ) (service : Service) (rest : List Line) (less : ℕ) → registers from ≡ s.frame.registers from → Both u (on_checked (number_of (s.frame.registers from)) (λ z. serves u g to service z rest less s)) (on_checked (number_of (registers from)) (λ z. serves u g to service z rest less (shaded s registers)))
+    bytes_both to from service rest less e = checked_both u _ _ _ _ (ap number_of e) (λ z k.
+        let reply = serve service g.capacity z s.input s.output in
+        served_both rest to (Number reply.value) reply.input reply.output less)
 
     place_same : (place : Place) → ((r : ℕ) → place_uses place r ≡ true → registers r ≡ s.frame.registers r) → place_of place s.frame.active registers s.store ≡ place_of place s.frame.active s.frame.registers s.store
     place_same (Static object offset) h = refl
@@ -212,8 +212,8 @@ module _ (u : Code) (g : Setting) (s : State) (registers : ℕ → Value) (f : F
         let next : State = record s { frame = with_rest s.frame rest } in
         Going next registers _ (alike_in u next registers f is (passed_by f.blocks.items (Cut cause) rest s.frame.spot.exit s.frame.registers registers (λ r. refl) h))
     line_both (Call to i first count) rest h = takes_both u s.fuel s.output _ _ (λ less. calls_both to i first count rest less h)
-    line_both (GetChar to) rest h = takes_both u s.fuel s.output _ _ (λ less. gets_both rest to s.input less)
-    line_both (PutChar to from) rest h = takes_both u s.fuel s.output _ _ (λ less. bytes_both to from rest less (one (PutChar to from) rest from h (same_is from)))
+    line_both (Serve to service None) rest h = takes_both u s.fuel s.output _ _ (λ less. let reply = serve service g.capacity (pos 0) s.input s.output in served_both rest to (Number reply.value) reply.input reply.output less)
+    line_both (Serve to service (Some from)) rest h = takes_both u s.fuel s.output _ _ (λ less. bytes_both to from service rest less (one (Serve to service (Some from)) rest from h (same_is from)))
 
     -- to a block of the function
     to_both : (b fuel : ℕ) → ((r n : ℕ) → reads_first f.blocks.items (suc n) b r ≡ true → registers r ≡ s.frame.registers r) → Both u (goes_to u g b fuel s) (goes_to u g b fuel (shaded s registers))

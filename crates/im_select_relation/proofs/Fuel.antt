@@ -1,17 +1,17 @@
 -- More fuel is wanted only where none is left.
 use Rattle.std.proofs.Common.{◌≡◌, ℕ, zero, suc, Bool, true, false, cond, List, [], ◌∷◌, refl}
-use Rattle.std.specs.Prelude.{slice_get, nat_le, nat_lt, length}
+use Rattle.std.specs.Prelude.{slice_get, nat_le, nat_lt, length, Some, None}
 use Rattle.im_store.specs.Checks.{Checked, Fine, Bad}
 use Rattle.im_store.specs.Objects.{Value, Unset}
 use Rattle.im_store.specs.Outcomes.{Undef, More, End}
 use Rattle.im_block.specs.declared.code.Line.{Line}
-use Rattle.im_block.specs.declared.code.Line.TheVariants.{Put, PutNull, Copy, Convert, Unary, Not, Compute, Compare, Move, Distance, Address, Read, Write, Reload, Spill, Cut, Call, GetChar, PutChar}
+use Rattle.im_block.specs.declared.code.Line.TheVariants.{Put, PutNull, Copy, Convert, Unary, Not, Compute, Compare, Move, Distance, Address, Read, Write, Reload, Spill, Cut, Call, Serve}
 use Rattle.im_block.specs.declared.code.Exit.{Exit}
 use Rattle.im_block.specs.declared.code.Exit.TheVariants.{Jump, Turn, Branch, Return}
 use Rattle.im_block.specs.declared.code.Block.{Block}
 use Rattle.im_block.specs.declared.unit.Function.{Function}
 use Rattle.im_block.specs.declared.unit.Unit.{Unit as Code}
-use Rattle.im_block.specs.Meaning.{Setting, Site, Found, Left, Frame, State, Next, Goes, Stops, on_checked, takes, computes, reads, writes, enters, gets, number_of, condition, found, next_active, does, goes_to, back, leaves, step_at, step}
+use Rattle.im_block.specs.Meaning.{Setting, Site, Found, Left, Frame, State, Next, Goes, Stops, on_checked, takes, computes, reads, writes, enters, number_of, condition, found, next_active, does, goes_to, back, leaves, step_at, step}
 use Rattle.im_block.specs.Runs.{before, start}
 
 abbrev pub Paid : ℕ → Next → Type 0
@@ -49,10 +49,6 @@ enters_paid u g i first count fuel n registers callers s =
 to_paid : (u : Code) (g : Setting) (b fuel n : ℕ) (s : State) → Paid n (goes_to u g b fuel s)
 to_paid u g b fuel n s = checked_paid {A = Function} n (found (slice_get u.functions.items s.frame.function)) _ (λ f. checked_paid {A = Block} n (found (slice_get f.blocks.items b)) _ (λ block. tt))
 
-gets_paid : (u : Code) (g : Setting) (to : ℕ) (rest : List Line) (input : List ℕ) (fuel n : ℕ) (s : State) → Paid n (gets u g to rest input fuel s)
-gets_paid u g to rest [] fuel n s = tt
-gets_paid u g to rest (byte ∷ input) fuel n s = tt
-
 does_paid : (u : Code) (g : Setting) (line : Line) (rest : List Line) (s : State) → Paid s.fuel (does u g line rest s)
 does_paid u g (Put to z) rest s = tt
 does_paid u g (PutNull to) rest s = tt
@@ -71,8 +67,8 @@ does_paid u g (Reload to slot access) rest s = reads_paid to _ _ rest s
 does_paid u g (Spill slot from access) rest s = writes_paid _ _ rest s
 does_paid u g (Cut cause) rest s = tt
 does_paid u g (Call to i first count) rest s = takes_paid s.fuel s.output _ (λ less. enters_paid u g i first count less s.fuel s.frame.registers _ s)
-does_paid u g (GetChar to) rest s = takes_paid s.fuel s.output _ (λ less. gets_paid u g to rest s.input less s.fuel s)
-does_paid u g (PutChar to from) rest s = takes_paid s.fuel s.output _ (λ less. checked_paid s.fuel (number_of (s.frame.registers from)) _ (λ z. cond_paid s.fuel (nat_lt (length s.output) g.capacity) _ _ tt tt))
+does_paid u g (Serve to service None) rest s = takes_paid s.fuel s.output _ (λ less. tt)
+does_paid u g (Serve to service (Some from)) rest s = takes_paid s.fuel s.output _ (λ less. checked_paid s.fuel (number_of (s.frame.registers from)) _ (λ z. tt))
 
 back_paid : (u : Code) (g : Setting) (callers : List Frame) (v : Value) (s : State) → Paid s.fuel (back u g callers v s)
 back_paid u g [] v s = checked_paid s.fuel (number_of v) _ (λ n. tt)

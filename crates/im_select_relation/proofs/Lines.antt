@@ -1,6 +1,6 @@
 -- Each line that passes on to the next, on the machine.
 use Rattle.std.proofs.Common.{◌≡◌, ℕ, zero, suc, ◌+◌, ◌*◌, ◌%◌, ◌^◌, ◌<◌, ◌≤◌, ◌⊎◌, inl, inr, ℤ, pos, negsuc, ◌≤ℤ◌, ◌<ℤ◌, Bool, true, false, cond, List, [], ◌∷◌, ◌++◌, length, Some, sym, ap, ◌∙◌, subst, refl, arith}
-use Rattle.std.specs.Prelude.{◌==◌, ◌&&◌, neg_ℤ, ◌-ℤ◌, nat_lt, nat_abs, not, slice_get, replicate, bit_xor}
+use Rattle.std.specs.Prelude.{◌==◌, ◌&&◌, neg_ℤ, ◌-ℤ◌, nat_lt, nat_abs, not, slice_get, replicate, bit_xor, None}
 use Rattle.std.proofs.lemmas.List.{append-nil}
 use Rattle.std.proofs.lemmas.Int.{ints}
 use Rattle.im_num.specs.declared.kind.Kind.{Kind}
@@ -10,7 +10,7 @@ use Rattle.im_num.specs.declared.values.Cause.{Cause}
 use Rattle.im_num.proofs.Wrapping.{wrap-of_kind}
 use Rattle.im_mem.specs.Memory.{Mem, is_place, bytes_from}
 use Rattle.im_rv.specs.declared.instr.Op.{Op}
-use Rattle.im_rv.specs.declared.instr.Op.TheVariants.{Addi, Sltiu, Xori, Srl, Sra, Sub, Div, Divu, Rem, Remu}
+use Rattle.im_rv.specs.declared.instr.Op.TheVariants.{Addi, Sltiu, Xori, Srl, Sra, Srli, Srai, Sub, Div, Divu, Rem, Remu}
 use Rattle.im_rv.specs.declared.effect.Effect.TheVariants.{Puts}
 use Rattle.im_rv.specs.Steps.{Cpu, sum_of, difference_of, as_number as number_as, with_reg, quotient}
 use Rattle.im_rv.proofs.Straight.{same_reg, other_reg}
@@ -35,13 +35,15 @@ use Rattle.im_store.specs.Outcomes.{Undef, More, End}
 use Rattle.im_store.specs.Pointers.{compare_places}
 use Rattle.im_store.specs.Numbers.{apply_one, compares}
 use Rattle.im_store.specs.Objects.{Slot, Link, Value, Number, Null, Pointer, Shape, Store, same_kind}
+use Rattle.im_serve.specs.declared.service.Service.TheVariants.{Getchar, Putchar}
+use Rattle.im_serve.specs.Services.{byte_in, byte_put}
 use Rattle.im_block.specs.declared.code.Place.TheVariants.{Static}
 use Rattle.im_block.specs.declared.code.Line.{Line}
-use Rattle.im_block.specs.declared.code.Line.TheVariants.{Cut, GetChar, PutChar}
+use Rattle.im_block.specs.declared.code.Line.TheVariants.{Cut, Serve}
 use Rattle.im_block.specs.declared.unit.Unit.{Unit as Code}
-use Rattle.im_block.specs.Meaning.{Setting, State, Next, Goes, Stops, Serves, Cuts, Active, object_of, with_register, with_rest, kept_by, does, place_of, computed, computed_one, moved, distance_of, negation, condition, compared, converted, pointer_of, slot_of, slot_shape, read_place, write_place, read_slot, write_slot, site_of, slot_site, number_of, Location, as_number, as_truth, served, gets}
+use Rattle.im_block.specs.Meaning.{Setting, State, Next, Goes, Stops, Serves, Cuts, Active, object_of, with_register, with_rest, kept_by, does, place_of, computed, computed_one, moved, distance_of, negation, condition, compared, converted, pointer_of, slot_of, slot_shape, read_place, write_place, read_slot, write_slot, site_of, slot_site, number_of, Location, as_number, as_truth, served, replies, computes}
 use Rattle.im_select_relation.specs.Linking.{Linking, pointer_at, frame_of, runtime, Means}
-use Rattle.im_select_relation.specs.Selected.{IsEntry, ones, Already, Moved, Selected, Numbers, Nulls, Copies, Converts, Negates, Complements, Nots, Computes, Compares, Moves, Measures, Addresses, AddressesPage, Fetches, StoresValue, Reloads, Spills, Cuts_, Calls, Gets, Puts_, Stands, Displaced}
+use Rattle.im_select_relation.specs.Selected.{IsHome, IsEntry, ones, Immediate, AddsBy, SubtractsBy, AndsBy, OrsBy, XorsBy, ShiftsLeftBy, ShiftsRightBy, Already, Moved, Selected, Numbers, Nulls, Copies, Converts, Negates, Complements, Nots, Computes, Compares, Moves, Measures, Addresses, AddressesPage, Fetches, StoresValue, Reloads, Spills, Cuts_, Calls, Gets, Puts_, Stands, Displaced}
 use Rattle.im_block.specs.Shape.{narrowing, line_weight}
 use Rattle.im_select_relation.specs.Law.{Touches, Nothing, Serving, Cutting, steps}
 use Rattle.im_select_relation.proofs.Registers.{RegsMean, means_at, only_result}
@@ -52,7 +54,7 @@ use Rattle.im_select_relation.proofs.Shapes.{Premises}
 use Rattle.im_select_relation.proofs.Relation.{Rel, Advanced, After, checked_after, takes_after, chain_kept, links_same}
 use Rattle.im_select_relation.proofs.Calls.{number_word, lost_by, word_even, call_after}
 use Rattle.im_select_relation.proofs.Places.{Ready, means_mod, displaced, static_means, based}
-use Rattle.im_select_relation.proofs.Operators.{Converts as Converted_, numbers_mean, truths_mean, converted_word, computed_row, condition_word, zero_test}
+use Rattle.im_select_relation.proofs.Operators.{Converts as Converted_, numbers_mean, truths_mean, converted_word, computed_row, immediate_row, condition_word, zero_test}
 use Rattle.im_select_relation.proofs.Pointers.{in_use, use_small, places_word, moved_means, moved_word, distance_means}
 use Rattle.im_select_relation.proofs.Computing.{gave_weak, gave_none, some_steps, gave_constant, gave_compared, gave_converted, gave_moved, gave_distance}
 use Rattle.im_select_relation.proofs.Gives.{Lands, gave_one, gave_more, computes_after, reads_after, writes_after}
@@ -175,7 +177,7 @@ byte_of z = loaded_wrap U8 z ∙ small (wrap U8 z) (wrap-of_kind U8 z).low (wrap
     small (pos n) low high = word_of n (omega (arith, ints))
     small (negsuc n) low high = absurd (omega (arith, ints))
 
-put_line : (p : Linking) (u : Code) (g : Setting) → Premises p u g → (s : State) (c : Cpu) (m : Mem) (r : Rel p u g s c m) (rest : List Line) (imm : ℕ) → sum_of c.pc imm ≡ p.puts → Holds p.image c.pc (jumping 1 imm) → Stands p r.f.blocks.items s.frame.function (frame_of g s.frame.function) (c.pc + 4) rest s.frame.spot.exit → After p u g s.fuel (p.longest + 1) c m (does u g (PutChar 10 10) rest s)
+put_line : (p : Linking) (u : Code) (g : Setting) → Premises p u g → (s : State) (c : Cpu) (m : Mem) (r : Rel p u g s c m) (rest : List Line) (imm : ℕ) → sum_of c.pc imm ≡ p.puts → Holds p.image c.pc (jumping 1 imm) → Stands p r.f.blocks.items s.frame.function (frame_of g s.frame.function) (c.pc + 4) rest s.frame.spot.exit → After p u g s.fuel (p.longest + 1) c m (does u g (Serve 10 Putchar (Some 10)) rest s)
 put_line p u g l s c m r rest imm lands h code =
     takes_after p u g s.fuel (p.longest + 1) c m s.output _ r.output (λ less.
     checked_after p u g (suc less) (p.longest + 1) c m (number_of (s.frame.registers 10)) _ (λ z e.
@@ -189,7 +191,7 @@ put_line p u g l s c m r rest imm lands h code =
     x : ℕ → ℕ
     x = with_reg c.x 1 (sum_of c.pc 4)
 
-    by : (less : ℕ) (z : ℤ) (d : Done (runtime p g) m p.puts (with_reg c.x 1 (sum_of c.pc 4)) (with_reg c.x 1 (sum_of c.pc 4) 1) (put g.capacity (shown m) (with_reg c.x 1 (sum_of c.pc 4) 10)) (left m)) → d.y 10 ≡ put_answer g.capacity (shown m) (with_reg c.x 1 (sum_of c.pc 4) 10) → with_reg c.x 1 (sum_of c.pc 4) 10 % 256 ≡ nat_abs (wrap U8 z) → (b : Bool) → nat_lt (length s.output) g.capacity ≡ b → After p u g (suc less) (p.longest + 1) c m (cond b (served u g 10 (Number (pos (nat_abs (wrap U8 z)))) rest s.input (s.output ++ nat_abs (wrap U8 z) ∷ []) less s) (served u g 10 (Number (negsuc 0)) rest s.input s.output less s))
+    by : (less : ℕ) (z : ℤ) (d : Done (runtime p g) m p.puts (with_reg c.x 1 (sum_of c.pc 4)) (with_reg c.x 1 (sum_of c.pc 4) 1) (put g.capacity (shown m) (with_reg c.x 1 (sum_of c.pc 4) 10)) (left m)) → d.y 10 ≡ put_answer g.capacity (shown m) (with_reg c.x 1 (sum_of c.pc 4) 10) → with_reg c.x 1 (sum_of c.pc 4) 10 % 256 ≡ nat_abs (wrap U8 z) → (b : Bool) → nat_lt (length s.output) g.capacity ≡ b → After p u g (suc less) (p.longest + 1) c m (replies u g 10 (byte_put b (nat_abs (wrap U8 z)) s.input s.output) rest less s)
     by less z d a byte true t =
         let room : nat_lt (length (shown m)) g.capacity ≡ true = ap (λ (q : List ℕ). nat_lt (length q) g.capacity) r.output ∙ t in
         let eo : put g.capacity (shown m) (x 10) ≡ s.output ++ nat_abs (wrap U8 z) ∷ [] = ap (λ b. cond b (shown m ++ x 10 % 256 ∷ []) (shown m)) room ∙ ap (λ q. q ++ x 10 % 256 ∷ []) r.output ∙ ap (λ q. s.output ++ q ∷ []) byte in
@@ -207,14 +209,14 @@ first_byte : (m : Mem) (a n byte : ℕ) (more : List ℕ) → ((i : ℕ) → m i
 first_byte m a zero byte more h e = absurd cc
 first_byte m a (suc n) byte more h e = let f : m a ≡ byte = cc in let k = h a in omega arith
 
-get_line : (p : Linking) (u : Code) (g : Setting) → Premises p u g → (s : State) (c : Cpu) (m : Mem) (r : Rel p u g s c m) (rest : List Line) (imm : ℕ) → sum_of c.pc imm ≡ p.gets → Holds p.image c.pc (jumping 1 imm) → Stands p r.f.blocks.items s.frame.function (frame_of g s.frame.function) (c.pc + 4) rest s.frame.spot.exit → After p u g s.fuel (p.longest + 1) c m (does u g (GetChar 10) rest s)
+get_line : (p : Linking) (u : Code) (g : Setting) → Premises p u g → (s : State) (c : Cpu) (m : Mem) (r : Rel p u g s c m) (rest : List Line) (imm : ℕ) → sum_of c.pc imm ≡ p.gets → Holds p.image c.pc (jumping 1 imm) → Stands p r.f.blocks.items s.frame.function (frame_of g s.frame.function) (c.pc + 4) rest s.frame.spot.exit → After p u g s.fuel (p.longest + 1) c m (does u g (Serve 10 Getchar None) rest s)
 get_line p u g l s c m r rest imm lands h code =
     takes_after p u g s.fuel (p.longest + 1) c m s.output _ r.output (λ less.
     let x : ℕ → ℕ = with_reg c.x 1 (sum_of c.pc 4) in
     let q = l.at.gets m x (called p u g s c m r 1 imm (omega arith) h) in
     by less q.0 q.1 s.input r.input)
   where
-    by : (less : ℕ) (d : Done (runtime p g) m p.gets (with_reg c.x 1 (sum_of c.pc 4)) (with_reg c.x 1 (sum_of c.pc 4) 1) (shown m) (got (left m))) → d.y 10 ≡ got_answer (left m) → (input : List ℕ) → left m ≡ input → After p u g (suc less) (p.longest + 1) c m (gets u g 10 rest input less s)
+    by : (less : ℕ) (d : Done (runtime p g) m p.gets (with_reg c.x 1 (sum_of c.pc 4)) (with_reg c.x 1 (sum_of c.pc 4) 1) (shown m) (got (left m))) → d.y 10 ≡ got_answer (left m) → (input : List ℕ) → left m ≡ input → After p u g (suc less) (p.longest + 1) c m (replies u g 10 (byte_in input s.output) rest less s)
     by less d a [] e =
         served_after p u g l s c m r rest p.gets imm less _ _ s.output [] (Number (negsuc 0)) lands h code d r.output (ap got e) (a ∙ ap got_answer e ∙ sym minus_one)
     by less d a (byte ∷ input) e =
@@ -290,6 +292,25 @@ operation_on BitOr kind = refl
 operation_on BitXor kind = refl
 operation_on ShiftLeft kind = refl
 operation_on ShiftRight kind = signed_on kind Sra Srl refl refl
+
+immediate_on : (z : ℤ) (kind : Kind) (op : BinaryOp) (by : Op) (imm : ℕ) → Immediate z kind op by imm → returns_by by ≡ false
+immediate_on z kind op by imm AddsBy = refl
+immediate_on z kind op by imm (SubtractsBy n e) = refl
+immediate_on z kind op by imm AndsBy = refl
+immediate_on z kind op by imm OrsBy = refl
+immediate_on z kind op by imm XorsBy = refl
+immediate_on z kind op by imm ShiftsLeftBy = refl
+immediate_on z kind op by imm ShiftsRightBy = signed_on kind Srai Srli refl refl
+
+-- an operator and the constant on its right, as one
+pub folded_after : (p : Linking) (u : Code) (g : Setting) (s : State) (c : Cpu) (m : Mem) (r : Rel p u g s c m) (z : ℤ) (to : ℕ) (op : BinaryOp) (kind : Kind) (left : ℕ) (rest : List Line) (by : Op) (imm : ℕ) → IsHome to → IsHome left → IsPromoted kind → Immediate z kind op by imm → Holds p.image c.pc (with_immediate by to left imm) → Stands p r.f.blocks.items s.frame.function (frame_of g s.frame.function) (c.pc + 4) rest s.frame.spot.exit → After p u g s.fuel (1 + narrowing kind) c m (computes to (as_number (computed op kind (s.frame.registers left) (Number z))) rest s)
+folded_after p u g s c m r z to op kind left rest by imm home a k is h code =
+    checked_after p u g s.fuel (1 + narrowing kind) c m (as_number (computed op kind (s.frame.registers left) (Number z))) _ (λ v e.
+    let t = then_fine (computed op kind (s.frame.registers left) (Number z)) _ v e in
+    computes_after p u g s c m r (1 + narrowing kind) to (word t.a) (c.pc + 4) (Fine v) rest home.0
+    (gave_weak m c.pc c.x to (word t.a) (c.pc + 4) 1 (1 + narrowing kind) (omega arith) (gave_one p.image m c.pc c.x (with_immediate by to left imm) (word t.a) (let q = home.0 in omega arith) r.fixed h
+    (immediate_row z kind op by imm c.pc (c.x left) (c.x 0) is ∙ computed_row p op kind (s.frame.registers left) (Number z) (c.x left) (word z) t.a c.pc 0 k t.first (r.regs.homes left a.0) refl) (immediate_on z kind op by imm is))) code
+    (λ v' e'. subst (λ q. Means p q (word t.a)) (fine_is (Number t.a) v t.second ∙ fine_is v v' e') refl))
 
 page : (hi : ℕ) → sum_of (hi * 4096 % 2 ^ 32) 0 ≡ hi * 4096 % 2 ^ 32
 page hi = omega arith

@@ -5,9 +5,11 @@ use Rattle.std.specs.Int.{int_div_euclid}
 use Rattle.std.proofs.lemmas.Bool.Decides.{nat_tests}
 use Rattle.im_num.specs.declared.kind.Kind.{Kind}
 use Rattle.im_num.specs.declared.kind.Kind.TheVariants.{I32, U32}
-use Rattle.im_num.specs.Kinds.{bits, wrap, word}
+use Rattle.im_num.specs.Kinds.{bits, is_signed, wrap, word}
 use Rattle.im_rv.specs.declared.effect.Effect.TheVariants.{Puts}
-use Rattle.im_rv.specs.Steps.{sum_of, as_number as number_as, row, signed, shift_right, shift_right_signed}
+use Rattle.im_rv.specs.Steps.{sum_of, as_number as number_as, difference_of, row, signed, shift_right, shift_right_signed}
+use Rattle.im_rv.specs.declared.instr.Op.{Op}
+use Rattle.im_rv.specs.declared.instr.Op.TheVariants.{Sra, Srl, Srai, Srli}
 use Rattle.im_select_operators.specs.Tables.{IsPromoted, operation}
 use Rattle.im_select_operators.proofs.Words.{word_of, word_small, word_wrap, wrap_unsigned, wrap_signed}
 use Rattle.im_select_operators.proofs.Arithmetic.{sum_word, difference_word, word_product, and_word, or_word, xor_word, shifted_word}
@@ -20,6 +22,7 @@ use Rattle.im_store.specs.Numbers.{apply, shifted, divided}
 use Rattle.im_store.specs.Objects.{Value, Number, Null, Pointer, Unset, Store, lives}
 use Rattle.im_block.specs.Meaning.{number_of, as_number, as_truth, right_of, converted, computed, condition}
 use Rattle.im_select_relation.specs.Linking.{Linking, Means}
+use Rattle.im_select_relation.specs.Selected.{Immediate, AddsBy, SubtractsBy, AndsBy, OrsBy, XorsBy, ShiftsLeftBy, ShiftsRightBy}
 use Rattle.im_select_relation.proofs.Mapped.{Mark, Mapped}
 use Rattle.im_select_relation.proofs.Values.{live, within_live, no_wrap, unless_fine}
 use Rattle.im_select_relation.proofs.Checks.{fine_is, then_fine}
@@ -122,6 +125,20 @@ computed_row p op k v w x y z pc imm h e m n =
     let d : y ≡ word r.a = number_word p w y r.a r.first n in
     ap (λ q. row (operation op k) pc q y imm) c.word_is ∙ ap (λ q. row (operation op k) pc (word c.z) q imm) d
     ∙ operator_row op k c.z r.a z pc imm h (subst (λ q. apply op k q (right_of op k r.a) ≡ Fine z) c.is r.second)
+
+-- an instruction with an immediate is that of registers, of which one has the constant
+pub immediate_row : (z : ℤ) (k : Kind) (op : BinaryOp) (by : Op) (imm pc x y : ℕ) → Immediate z k op by imm → row by pc x y imm ≡ row (operation op k) pc x (word z) 0
+immediate_row z k op by imm pc x y AddsBy = refl
+immediate_row z k op by imm pc x y (SubtractsBy n e) = let s = word_small z in let q : sum_of x n ≡ difference_of x (word z) = omega arith in ap (λ a. Puts a (sum_of pc 4)) q
+immediate_row z k op by imm pc x y AndsBy = refl
+immediate_row z k op by imm pc x y OrsBy = refl
+immediate_row z k op by imm pc x y XorsBy = refl
+immediate_row z k op by imm pc x y ShiftsLeftBy = refl
+immediate_row z k op by imm pc x y ShiftsRightBy = by_kind (is_signed k)
+  where
+    by_kind : (t : Bool) → row (cond t Srai Srli) pc x y (word z) ≡ row (cond t Sra Srl) pc x (word z) 0
+    by_kind true = refl
+    by_kind false = refl
 
 -- a value as a condition: its word is other than 0
 pub condition_word : (p : Linking) (store : Store) (frames : List Mark) (v : Value) (w : ℕ) (b : Bool) → Mapped p store.shape frames → condition store v ≡ Fine b → Means p v w → b ≡ not (w == 0)

@@ -12,13 +12,13 @@ use Rattle.im_store.specs.Objects.{Name, Slot, Link, Object, Value, Number, Null
 use Rattle.im_store.specs.Statics.{with_statics}
 use Rattle.im_store.specs.Outcomes.{Outcome}
 use Rattle.im_block.specs.declared.code.Line.{Line}
-use Rattle.im_block.specs.declared.code.Line.TheVariants.{Put, PutNull, Copy, Convert, Unary, Not, Compute, Compare, Move, Distance, Address, Read, Write, Reload, Spill, Cut, Call, GetChar, PutChar}
+use Rattle.im_block.specs.declared.code.Line.TheVariants.{Put, PutNull, Copy, Convert, Unary, Not, Compute, Compare, Move, Distance, Address, Read, Write, Reload, Spill, Cut, Call, Serve}
 use Rattle.im_block.specs.declared.code.Exit.{Exit}
 use Rattle.im_block.specs.declared.code.Exit.TheVariants.{Jump, Turn, Branch, Return}
 use Rattle.im_block.specs.declared.code.Block.{Block}
 use Rattle.im_block.specs.declared.unit.Function.{Function}
 use Rattle.im_block.specs.declared.unit.Unit.{Unit as Code}
-use Rattle.im_block.specs.Meaning.{Setting, Active, Site, site_of, slot_site, object_of, Found, Left, link_shape, slot_shape, slot_of, shapes_of, statics_of, Frame, State, Next, Goes, Stops, Event, Serves, Cuts, on_checked, takes, found, computes, reads, writes, read_place, write_place, read_slot, write_slot, number_of, condition, returned, next_active, enters, gets, does, back, goes_to, leaves, step_at, step}
+use Rattle.im_block.specs.Meaning.{Setting, Active, Site, site_of, slot_site, object_of, Found, Left, link_shape, slot_shape, slot_of, shapes_of, statics_of, Frame, State, Next, Goes, Stops, Event, Serves, Cuts, on_checked, takes, found, computes, reads, writes, read_place, write_place, read_slot, write_slot, number_of, condition, returned, next_active, enters, does, back, goes_to, leaves, step_at, step}
 use Rattle.im_block.specs.Runs.{Over, goes_on, exec, before, start}
 use Rattle.im_block.specs.Shape.{spot_weight}
 use Rattle.im_block.specs.Sections.{Item, Reader, Writer, Byte, bytes_of, items}
@@ -143,10 +143,6 @@ enters_sep p u g forced s section i first count fuel registers callers still liv
 served_sep : (p : Linking) (section : List (Item Byte)) (s : State) → AllLive s.store.shape section → StartsWithCut s.frame.spot.rest → CutAfterCalls s.frame.spot.rest → ForcedCallers s.callers → Sections p section s (Serves ∷ [])
 served_sep p section s live cut cuts callers = record { next = section; more = λ run h. h; inv = inl live; forced = cuts; callers = callers; served = λ run s c. (c cut, s) }
 
-gets_sep : (p : Linking) (u : Code) (g : Setting) (s : State) (section : List (Item Byte)) (to : ℕ) (rest : List Line) (input : List ℕ) (fuel : ℕ) → Here p g s → AllLive s.store.shape section → StartsWithCut rest → CutAfterCalls rest → SepNext p section (gets u g to rest input fuel s)
-gets_sep p u g s section to rest [] fuel h live cut cuts = record { next = section; more = λ run q. q; inv = inl live; forced = cuts; callers = h.callers; served = λ run s c. (c cut, s) }
-gets_sep p u g s section to rest (byte ∷ input) fuel h live cut cuts = record { next = section; more = λ run q. q; inv = inl live; forced = cuts; callers = h.callers; served = λ run s c. (c cut, s) }
-
 slot_shaped : (p : Linking) (g : Setting) (s : State) → Here p g s → (slot : ℕ) (sh : Shape) → s.store.shape (object_of s.frame.active (Slot slot)) ≡ Some sh → sh ≡ slot_shape
 slot_shaped p g s h slot sh e = h.slots (object_of s.frame.active (Slot slot)) slot sh refl e
 
@@ -178,14 +174,11 @@ line_sep p u g forced s section (Cut cause) rest h live cuts k = record { next =
 line_sep p u g forced s section (Call to i first count) rest h live cuts k =
     takes_sep p section s.fuel s.output _ k (λ less k1.
     enters_sep p u g forced s section i first count less s.frame.registers _ (λ depth objects x l. still_live p g s depth objects x h l) live (cuts.0, cuts.1, h.callers) k1)
-line_sep p u g forced s section (GetChar to) rest h live cuts k =
-    takes_sep p section s.fuel s.output _ k (λ less k1. gets_sep p u g s section to rest s.input less h live cuts.0 cuts.1)
-line_sep p u g forced s section (PutChar to from) rest h live cuts k =
+line_sep p u g forced s section (Serve to service None) rest h live cuts k =
+    takes_sep p section s.fuel s.output _ k (λ less k1. record { next = section; more = λ run q. q; inv = inl live; forced = cuts.1; callers = h.callers; served = λ run s c. (c cuts.0, s) })
+line_sep p u g forced s section (Serve to service (Some from)) rest h live cuts k =
     takes_sep p section s.fuel s.output _ k (λ less k1.
-    checked_sep p section (number_of (s.frame.registers from)) _ k1 (λ z e k2.
-    cond_sep p section (nat_lt (length s.output) g.capacity) _ _ k2
-    (λ k3. record { next = section; more = λ run q. q; inv = inl live; forced = cuts.1; callers = h.callers; served = λ run s c. (c cuts.0, s) })
-    (λ k3. record { next = section; more = λ run q. q; inv = inl live; forced = cuts.1; callers = h.callers; served = λ run s c. (c cuts.0, s) })))
+    checked_sep p section (number_of (s.frame.registers from)) _ k1 (λ z e k2. record { next = section; more = λ run q. q; inv = inl live; forced = cuts.1; callers = h.callers; served = λ run s c. (c cuts.0, s) }))
 
 to_sep : (p : Linking) (u : Code) (g : Setting) → AllForced u → (s : State) (section : List (Item Byte)) (b fuel : ℕ) → Here p g s → AllLive s.store.shape section → Sound p (goes_to u g b fuel s) → SepNext p section (goes_to u g b fuel s)
 to_sep p u g forced s section b fuel h live k =

@@ -4,6 +4,7 @@ use Rattle.std.specs.Prelude.{◌==◌, ◌||◌, not, slice_get, replicate, pos
 use Rattle.std.proofs.lemmas.Bool.Decides.{nat_tests}
 use Rattle.std.proofs.lemmas.List.{append-nil}
 use Rattle.im_num.specs.Variables.{Variable}
+use Rattle.im_num.specs.declared.kind.Kind.{Kind}
 use Rattle.im_num.specs.Kinds.{word}
 use Rattle.im_mem.specs.Memory.{Mem, little}
 use Rattle.im_rv.specs.declared.effect.Effect.TheVariants.{Puts}
@@ -21,22 +22,23 @@ use Rattle.im_rv_reach.proofs.Reach.{plus_is, nothing, no_back, leaps, begins_tr
 use Rattle.im_rv_reach.proofs.Orderly.{joined}
 use Rattle.im_select_operators.specs.Tables.{cell_word}
 use Rattle.im_store.specs.Checks.{Fine}
-use Rattle.im_store.specs.Objects.{Name, Named, Slot, Link, Object, static, Value, Unset, Shape}
+use Rattle.im_store.specs.declared.operators.BinaryOp.{BinaryOp}
+use Rattle.im_store.specs.Objects.{Name, Named, Slot, Link, Object, static, Value, Number, Unset, Shape}
 use Rattle.im_store.specs.Outcomes.{Outcome, Undef, More, End, IsDefined}
 use Rattle.im_store.specs.Statics.{static_shapes, static_values, with_statics}
 use Rattle.im_block.specs.declared.code.Line.{Line}
-use Rattle.im_block.specs.declared.code.Line.TheVariants.{Compare}
+use Rattle.im_block.specs.declared.code.Line.TheVariants.{Put, Compute, Compare}
 use Rattle.im_block.specs.declared.code.Block.{Block}
 use Rattle.im_block.specs.declared.unit.Function.{Function}
 use Rattle.im_block.specs.declared.code.Exit.{Exit}
 use Rattle.im_block.specs.declared.code.Exit.TheVariants.{Jump, Turn, Branch, Return}
 use Rattle.im_block.specs.declared.unit.Unit.{Unit as Code}
-use Rattle.im_block.specs.Meaning.{Setting, statics_of, condition, compared, as_truth, found, with_register, with_rest, does, at_block, State, Next, Goes, Stops, Event, Serves, goes_to, leaves, step_at, step}
+use Rattle.im_block.specs.Meaning.{Setting, statics_of, condition, compared, as_number, as_truth, computed, computes, found, with_register, with_rest, does, at_block, State, Next, Goes, Stops, Event, Serves, goes_to, leaves, step_at, step}
 use Rattle.im_block.specs.Runs.{Over, goes_on, exec, before, start}
-use Rattle.im_block.specs.Shape.{spot_weight, next_weight, after, spent, exit_words}
+use Rattle.im_block.specs.Shape.{narrowing, spot_weight, next_weight, after, spent, exit_words}
 use Rattle.im_select_relation.specs.Linking.{Linking, pointer_at, frame_of, address, Means}
-use Rattle.im_live.specs.Reads.{lives_in, reads_first}
-use Rattle.im_select_relation.specs.Selected.{nonzero, comparing, Tested, ExitAt, IsDead, Joined, Decides, Stands}
+use Rattle.im_live.specs.Reads.{lives_before, lives_in, reads_first}
+use Rattle.im_select_relation.specs.Selected.{nonzero, comparing, Tested, ExitAt, IsDead, Joined, Decides, IsSpent, Folded, ComputesBy, Stands, Paired}
 use Rattle.im_select_relation.specs.Law.{Touches, Nothing, Reading, Writing, Testing, Saving, Restoring, Serving, Cutting, ShowsStatics, steps, Shows}
 use Rattle.im_select_relation.proofs.Registers.{RegsMean, means_at, two_ways, register_same, register_other}
 use Rattle.im_select_relation.proofs.Mapped.{Mapped, object_is, base_static}
@@ -47,9 +49,9 @@ use Rattle.im_select_relation.proofs.Relation.{Rel, SlotsShaped, Finished, After
 use Rattle.im_select_relation.proofs.Ends.{jumps, continues, Passed, Decided, nonzero_decided, comparing_decided, tested}
 use Rattle.im_select_relation.proofs.Operators.{truth_word, condition_word}
 use Rattle.im_select_relation.proofs.Calls.{first_after, enter_after, back_after, clears, gives}
-use Rattle.im_select_relation.proofs.Lines.{compared_word, line_after}
-use Rattle.im_select_relation.proofs.Alike.{shaded, AlikeAt, same_function, alike_in, operand, left_is, right_is, other_is, behind_lives, line_both, exit_both}
-use Rattle.im_select_relation.proofs.Stood.{truth_value, decided, Waiting, Stood, Shaded, Waits, Brought, Brings, both_brings, same_brings, checked_brings}
+use Rattle.im_select_relation.proofs.Lines.{compared_word, folded_after, line_after}
+use Rattle.im_select_relation.proofs.Alike.{shaded, AlikeAt, Going, checked_both, same_function, alike_in, used_lives, operand, left_is, right_is, other_is, behind_lives, line_both, exit_both}
+use Rattle.im_select_relation.proofs.Stood.{truth_value, decided, Waiting, bearing, Stood, Shaded, Waits, Bears, Brought, Brings, both_brings, same_brings, checked_brings}
 use Rattle.im_select_relation.proofs.Fuel.{Paid, step_paid}
 
 same_regs : (p : Linking) (registers : ℕ → Value) (sp : ℕ) (x y : ℕ → ℕ) → RegsMean p registers sp x → ((i : ℕ) → y i ≡ x i) → RegsMean p registers sp y
@@ -187,16 +189,97 @@ waited_brings p u g l s c m w =
     truth_holds true = ap (λ z. not (z == 0)) (sym (truth_word true))
     truth_holds false = ap (λ z. not (z == 0)) (sym (truth_word false))
 
+-- ---- a constant and the line that uses it, as one
+
+-- the constant: no instruction yet
+borne_brings : (p : Linking) (u : Code) (g : Setting) (s : State) (c : Cpu) (m : Mem) (registers : ℕ → Value) (r : Rel p u g (shaded s registers) c m) (line user : Line) (rest : List Line) (words next : ℕ) → AlikeAt r.f.blocks.items (line ∷ user ∷ rest) s.frame.spot.exit s.frame.registers registers → Folded p r.f.blocks.items c.pc line user rest s.frame.spot.exit next → Stands p r.f.blocks.items s.frame.function (frame_of g s.frame.function) next rest s.frame.spot.exit → Brings p u g s.fuel words c m (does u g line (user ∷ rest) s)
+borne_brings p u g s c m registers r line user rest words next alike (ComputesBy q z to op kind left rest' exit' by imm home a ne k is spent h) code = record {
+  n = zero;
+  worth = omega arith;
+  few = omega arith;
+  d = c;
+  k = m;
+  ts = [];
+  touches = Nothing;
+  orderly = refl;
+  reach = nothing c m;
+  stood = Bears s c m (record {
+    registers = registers;
+    rel = r;
+    r = q;
+    z = z;
+    user = Compute to op kind left q;
+    rest = rest;
+    next = c.pc + 4;
+    alike = alike;
+    folded = ComputesBy q z to op kind left rest s.frame.spot.exit by imm home a ne k is spent h;
+    code = code;
+  });
+}
+
+paired_brings : (p : Linking) (u : Code) (g : Setting) (s : State) (c : Cpu) (m : Mem) (registers : ℕ → Value) (r : Rel p u g (shaded s registers) c m) (line : Line) (rest : List Line) (words : ℕ) → AlikeAt r.f.blocks.items (line ∷ rest) s.frame.spot.exit s.frame.registers registers → Paired p r.f.blocks.items s.frame.function (frame_of g s.frame.function) c.pc line rest s.frame.spot.exit → Brings p u g s.fuel words c m (does u g line rest s)
+paired_brings p u g s c m registers r line [] words alike h = absurd h
+paired_brings p u g s c m registers r line (user ∷ rest) words alike h = borne_brings p u g s c m registers r line user rest words h.0 alike h.1 h.2
+
+-- registers that live behind the two: the constant's is none of them, or is set
+module _ (blocks : List Block) (exit : Exit) (old registers : ℕ → Value) (r : ℕ) (z : ℤ) (to : ℕ) (op : BinaryOp) (kind : Kind) (left : ℕ) (rest : List Line) (ne : left ≢ r) (spent : IsSpent blocks rest exit to r) (alike : AlikeAt blocks (Put r z ∷ Compute to op kind left r ∷ rest) exit old registers) where
+  abbrev borne : ℕ → Value
+  borne = with_register old r (Number z)
+
+  abbrev taking : Line
+  taking = Compute to op kind left r
+
+  left_still : registers left ≡ borne left
+  left_still =
+      let used = used_lives (reads_first blocks 0) taking rest exit left (left_is left r) in
+      alike left 0 (behind_lives (reads_first blocks 0) (Put r z) (taking ∷ rest) exit left (other_is left r ne) used) ∙ sym (register_other old r (Number z) left ne)
+
+  still : (q n : ℕ) → q ≢ to → lives_before (reads_first blocks n) rest exit q ≡ true → registers q ≡ borne q
+  still q n other h = elim (two_ways q r) [
+    | inl same ↦ absurd (elim spent [
+      | inl e ↦ other (same ∙ e)
+      | inr dead ↦ (let lives : lives_before (reads_first blocks n) rest exit r ≡ true = ap (λ x. lives_before (reads_first blocks n) rest exit x) (sym same) ∙ h in let none = dead n in let bad : true ≡ false = sym lives ∙ none in cc)
+    ])
+    | inr apart ↦ (
+        let behind = behind_lives (reads_first blocks n) taking rest exit q (other_is q to other) h in
+        alike q n (behind_lives (reads_first blocks n) (Put r z) (taking ∷ rest) exit q (other_is q r apart) behind) ∙ sym (register_other old r (Number z) q apart)
+        )
+  ]
+
+  used_alike : (v : Value) → AlikeAt blocks rest exit (with_register borne to v) (with_register registers to v)
+  used_alike v q n h = elim (two_ways q to) [
+    | inl same ↦ ap (with_register registers to v) same ∙ register_same registers to v ∙ sym (register_same borne to v) ∙ ap (with_register borne to v) (sym same)
+    | inr other ↦ register_other registers to v q other ∙ still q n other h ∙ sym (register_other borne to v q other)
+  ]
+
+-- the line that uses it
+user_brings : (p : Linking) (u : Code) (g : Setting) (s : State) (c : Cpu) (m : Mem) (registers : ℕ → Value) (r : Rel p u g (shaded s registers) c m) (q : ℕ) (z : ℤ) (user : Line) (rest : List Line) (next : ℕ) → AlikeAt r.f.blocks.items (Put q z ∷ user ∷ rest) s.frame.spot.exit s.frame.registers registers → Folded p r.f.blocks.items c.pc (Put q z) user rest s.frame.spot.exit next → Stands p r.f.blocks.items s.frame.function (frame_of g s.frame.function) next rest s.frame.spot.exit → Brings p u g s.fuel (next_weight (steps p) (user ∷ rest) s.frame.spot.exit) c m (does u g user rest (bearing s q z (user ∷ rest)))
+user_brings p u g s c m registers r q z user rest next alike (ComputesBy q' z' to op kind left rest' exit' by imm home a ne k is spent h) code =
+    let blocks : List Block = r.f.blocks.items in
+    let line : Line = Compute to op kind left q in
+    let was : State = bearing s q z (line ∷ rest) in
+    let old : ℕ → Value = was.frame.registers in
+    let el = left_still blocks s.frame.spot.exit s.frame.registers registers q z to op kind left rest ne spent alike in
+    let er = sym (register_same s.frame.registers q (Number z)) in
+    let same : as_number (computed op kind (registers left) (Number z)) ≡ as_number (computed op kind (old left) (old q)) = ap (λ x. as_number (computed op kind x (Number z))) el ∙ ap (λ x. as_number (computed op kind (old left) x)) er in
+    both_brings p u g s.fuel (1 + narrowing kind) c m (computes to (as_number (computed op kind (old left) (old q))) rest was) (computes to (as_number (computed op kind (registers left) (Number z))) rest (shaded s registers))
+    (checked_both u _ _ _ _ same (λ v e.
+    let now : State = record was { frame = record (with_rest was.frame rest) { registers = with_register old to v } } in
+    Going now (with_register registers to v) [] (alike_in u now (with_register registers to v) r.f r.is (used_alike blocks s.frame.spot.exit s.frame.registers registers q z to op kind left rest ne spent alike v))))
+    (folded_after p u g (shaded s registers) c m r z to op kind left rest by imm home a k is h code)
+
 -- ---- a step
 
 shaded_brings : (p : Linking) (u : Code) (g : Setting) → Premises p u g → (s : State) (c : Cpu) (m : Mem) (registers : ℕ → Value) (r : Rel p u g (shaded s registers) c m) (lines : List Line) → AlikeAt r.f.blocks.items lines s.frame.spot.exit s.frame.registers registers → Stands p r.f.blocks.items s.frame.function (frame_of g s.frame.function) c.pc lines s.frame.spot.exit → Brings p u g s.fuel (next_weight (steps p) lines s.frame.spot.exit) c m (step_at u g lines s)
 shaded_brings p u g l s c m registers r [] alike code = both_brings p u g s.fuel _ c m _ _ (exit_both u g s registers r.f r.is p l s.frame.spot.exit alike) (exit_after p u g l (shaded s registers) c m r s.frame.spot.exit code)
 shaded_brings p u g l s c m registers r (line ∷ rest) alike (inl code) = both_brings p u g s.fuel _ c m _ _ (line_both u g s registers r.f r.is p l line rest alike) (line_after p u g l (shaded s registers) c m r line rest code.0 code.1 code.2)
-shaded_brings p u g l s c m registers r (line ∷ rest) alike (inr code) = joined_brings p u g s c m registers r line rest s.frame.spot.exit _ refl alike code
+shaded_brings p u g l s c m registers r (line ∷ rest) alike (inr (inl code)) = joined_brings p u g s c m registers r line rest s.frame.spot.exit _ refl alike code
+shaded_brings p u g l s c m registers r (line ∷ rest) alike (inr (inr code)) = paired_brings p u g s c m registers r line rest _ alike code
 
 pub stood_brings : (p : Linking) (u : Code) (g : Setting) → Premises p u g → (s : State) (c : Cpu) (m : Mem) → Stood p u g s c m → Brings p u g s.fuel (spot_weight (steps p) s.frame.spot) c m (step u g s)
 stood_brings p u g l s c m (Shaded s' c' m' registers alike r) = shaded_brings p u g l s' c m registers r s'.frame.spot.rest (alike r.f r.is) r.code
 stood_brings p u g l s c m (Waits s' c' m' w) = subst (λ z. Brings p u g s'.fuel (exit_words z) c m (leaves u g z (decided s' w.to w.holds))) (sym w.exit) (waited_brings p u g l s' c m w)
+stood_brings p u g l s c m (Bears s' c' m' w) = user_brings p u g s' c m w.registers w.rel w.r w.z w.user w.rest w.next w.alike w.folded w.code
 
 pub touches_append : (p : Linking) (a b : List Event) (ts us : List Touch) → Touches p a ts → Touches p b us → Touches p (a ++ b) (ts ++ us)
 touches_append p a b ts us Nothing h = h

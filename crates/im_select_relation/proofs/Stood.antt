@@ -1,5 +1,5 @@
 -- A state of placed code and a state of the machine that stands for it, but for registers that nothing reads.
-use Rattle.std.proofs.Common.{◌≡◌, ℕ, suc, ◌+◌, ◌≤◌, Bool, true, cond, List, [], ◌∷◌, refl, pos}
+use Rattle.std.proofs.Common.{◌≡◌, ℕ, suc, ◌+◌, ◌≤◌, Bool, true, cond, ℤ, List, [], ◌∷◌, refl, pos}
 use Rattle.im_mem.specs.Memory.{Mem}
 use Rattle.im_rv.specs.Steps.{Cpu}
 use Rattle.im_rv_reach.specs.Touches.{Touch, heard}
@@ -9,17 +9,19 @@ use Rattle.im_rv_reach.specs.Reach.{Reach}
 use Rattle.im_store.specs.Checks.{Checked, Fine, Bad}
 use Rattle.im_store.specs.Objects.{Value, Number}
 use Rattle.im_store.specs.Outcomes.{Undef, More, End}
+use Rattle.im_block.specs.declared.code.Line.{Line}
+use Rattle.im_block.specs.declared.code.Line.TheVariants.{Put}
 use Rattle.im_block.specs.declared.code.Exit.TheVariants.{Branch}
 use Rattle.im_block.specs.declared.unit.Unit.{Unit as Code}
 use Rattle.im_block.specs.Meaning.{Setting, State, Event, Next, Goes, Stops, on_checked, with_register, with_rest}
 use Rattle.im_live.specs.Reads.{reads_first}
-use Rattle.im_select_relation.specs.Linking.{Linking}
-use Rattle.im_select_relation.specs.Selected.{Test, Tested}
+use Rattle.im_select_relation.specs.Linking.{Linking, frame_of}
+use Rattle.im_select_relation.specs.Selected.{Test, Tested, Folded, Stands}
 use Rattle.im_select_relation.specs.Law.{Touches}
 use Rattle.im_select_relation.proofs.Mapped.{marks, Mapped}
 use Rattle.im_select_relation.proofs.Relation.{Rel, SlotsShaped, Ordered, AllLinked, Finished, After}
 use Rattle.im_select_relation.proofs.Ends.{Decided}
-use Rattle.im_select_relation.proofs.Alike.{shaded, Alike, Both, Going, Ending}
+use Rattle.im_select_relation.proofs.Alike.{shaded, AlikeAt, Alike, Both, Going, Ending}
 
 -- a truth value as a register has it
 abbrev pub truth_value : Bool → Value
@@ -43,10 +45,28 @@ pub record Waiting (p : Linking) (u : Code) (g : Setting) (s : State) (c : Cpu) 
   pub tested : Tested p c.pc test (p.place s.frame.function a) (p.place s.frame.function b)
   pub alike : (r n : ℕ) → reads_first rel.f.blocks.items (suc n) (cond holds a b) r ≡ true → registers r ≡ with_register s.frame.registers to (truth_value holds) r
 
+-- the state behind a constant
+abbrev pub bearing : State → ℕ → ℤ → List Line → State
+bearing s r z rest = record s { frame = record (with_rest s.frame rest) { registers = with_register s.frame.registers r (Number z) } }
+
+-- before that constant, where the machine is to make it with the line that uses it
+pub record Bearing (p : Linking) (u : Code) (g : Setting) (s : State) (c : Cpu) (m : Mem) : Type 0 where
+  pub registers : ℕ → Value
+  pub rel : Rel p u g (shaded s registers) c m
+  pub r : ℕ
+  pub z : ℤ
+  pub user : Line
+  pub rest : List Line
+  pub next : ℕ
+  pub alike : AlikeAt rel.f.blocks.items (Put r z ∷ user ∷ rest) s.frame.spot.exit s.frame.registers registers
+  pub folded : Folded p rel.f.blocks.items c.pc (Put r z) user rest s.frame.spot.exit next
+  pub code : Stands p rel.f.blocks.items s.frame.function (frame_of g s.frame.function) next rest s.frame.spot.exit
+
 -- the machine stands for a state: registers that live have its values; or it is where the state was before its last line
 pub data Stood (p : Linking) (u : Code) (g : Setting) : State → Cpu → Mem → Type 0 where
   Shaded : (s : State) (c : Cpu) (m : Mem) (registers : ℕ → Value) → Alike u s registers → Rel p u g (shaded s registers) c m → Stood p u g s c m
   Waits : (s : State) (c : Cpu) (m : Mem) (w : Waiting p u g s c m) → Stood p u g (decided s w.to w.holds) c m
+  Bears : (s : State) (c : Cpu) (m : Mem) (w : Bearing p u g s c m) → Stood p u g (bearing s w.r w.z (w.user ∷ w.rest)) c m
 
 -- what holds of each such state
 pub record Held (p : Linking) (g : Setting) (s : State) : Type 0 where
@@ -59,6 +79,7 @@ pub record Held (p : Linking) (g : Setting) (s : State) : Type 0 where
 pub held : (p : Linking) (u : Code) (g : Setting) (s : State) (c : Cpu) (m : Mem) → Stood p u g s c m → Held p g s
 held p u g s c m (Shaded s' c' m' registers a r) = record { mapped = r.mapped; ordered = r.ordered; linked = r.linked; fresh = r.fresh; slots = r.slots }
 held p u g s c m (Waits s' c' m' w) = let r = w.rel in record { mapped = r.mapped; ordered = r.ordered; linked = r.linked; fresh = r.fresh; slots = r.slots }
+held p u g s c m (Bears s' c' m' w) = let r = w.rel in record { mapped = r.mapped; ordered = r.ordered; linked = r.linked; fresh = r.fresh; slots = r.slots }
 
 -- what a step brings: steps of the machine, to one that stands for the next state
 pub record Brought (p : Linking) (u : Code) (g : Setting) (fuel words : ℕ) (c : Cpu) (m : Mem) (s : State) (events : List Event) : Type 0 where

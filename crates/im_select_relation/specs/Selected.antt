@@ -1,28 +1,30 @@
 -- What stands in memory for lines, exits and entries, as instructions.
-use Rattle.std.specs.Prelude.{◌≡◌, ◌≢◌, ◌<◌, ◌⊎◌, ℕ, ◌+◌, ◌-◌, ◌*◌, ◌^◌, Bool, true, false, if◌then◌else◌, List, [], ◌∷◌, Option, Some, None}
+use Rattle.std.specs.Prelude.{◌≡◌, ◌≢◌, ◌<◌, ◌⊎◌, ℕ, ◌+◌, ◌-◌, ◌*◌, ◌^◌, ℤ, Bool, false, if◌then◌else◌, List, [], ◌∷◌, Option, Some, None}
 use Rattle.im_num.specs.declared.kind.Kind.{Kind}
 use Rattle.im_num.specs.declared.kind.Kind.TheVariants.{U8, I32, U32, Ptr}
 use Rattle.im_num.specs.declared.values.Cause.{Cause}
 use Rattle.im_num.specs.Kinds.{kind_size, word}
 use Rattle.im_mem.specs.Map.{stack_lim_at}
 use Rattle.im_rv.specs.declared.instr.Op.{Op}
-use Rattle.im_rv.specs.declared.instr.Op.TheVariants.{Jalr, Beq, Bne, Blt, Bge, Bltu, Bgeu, Lw, Sw, Addi, Sltiu, Xori, Andi, Slli, Srli, Srai, Add as AddOp, Sub, Sltu, Mul, Div}
+use Rattle.im_rv.specs.declared.instr.Op.TheVariants.{Jalr, Beq, Bne, Blt, Bge, Bltu, Bgeu, Lw, Sw, Addi, Sltiu, Xori, Ori, Andi, Slli, Srli, Srai, Add as AddOp, Sub, Sltu, Mul, Div}
 use Rattle.im_rv.specs.Steps.{sum_of}
 use Rattle.im_rv_reach.specs.Instructions.{Holds, Splits, with_immediate, on_registers, storing, branching, upper, jumping}
 use Rattle.im_store.specs.declared.operators.BinaryOp.{BinaryOp}
+use Rattle.im_store.specs.declared.operators.BinaryOp.TheVariants.{Add, Subtract, BitAnd, BitOr, BitXor, ShiftLeft, ShiftRight}
 use Rattle.im_select_operators.specs.Tables.{IsPromoted, by_sign, load_op, store_op, operation, less_op}
 use Rattle.im_store.specs.declared.operators.UnaryOp.TheVariants.{Negate, Complement}
 use Rattle.im_store.specs.declared.operators.Comparison.{Comparison}
 use Rattle.im_store.specs.declared.operators.Comparison.TheVariants.{Less, Greater, LessOrEqual, GreaterOrEqual, Equal, NotEqual}
 use Rattle.im_store.specs.Objects.{Named, Slot}
+use Rattle.im_serve.specs.declared.service.Service.TheVariants.{Getchar, Putchar}
 use Rattle.im_block.specs.declared.code.Place.{Place}
 use Rattle.im_block.specs.declared.code.Place.TheVariants.{Static, Local, Through}
 use Rattle.im_block.specs.declared.code.Line.{Line}
-use Rattle.im_block.specs.declared.code.Line.TheVariants.{Put, PutNull, Copy, Convert, Unary, Not, Compute, Compare, Move, Distance, Address, Read, Write, Reload, Spill, Cut, Call, GetChar, PutChar}
+use Rattle.im_block.specs.declared.code.Line.TheVariants.{Put, PutNull, Copy, Convert, Unary, Not, Compute, Compare, Move, Distance, Address, Read, Write, Reload, Spill, Cut, Call, Serve}
 use Rattle.im_block.specs.declared.code.Exit.{Exit}
 use Rattle.im_block.specs.declared.code.Exit.TheVariants.{Jump, Turn, Branch, Return}
 use Rattle.im_block.specs.declared.code.Block.{Block}
-use Rattle.im_live.specs.Reads.{reads_first}
+use Rattle.im_live.specs.Reads.{lives_before, reads_first}
 use Rattle.im_select_relation.specs.Linking.{Linking}
 
 -- registers that placed code may use; x1 to x6 belong to calls, the stack, the runtime and the lines themselves
@@ -90,7 +92,7 @@ IsEntry m = (3 < m) × (m < 32)
 
 -- what stands from pc to next for a line
 pub data Selected (p : Linking) (pc : ℕ) : Line → ℕ → Type 0 where
-  Numbers : (to : ℕ) (z : Rattle.std.specs.Prelude.ℤ) (next : ℕ) → IsHome to → Constant p pc to (word z) next → Selected p pc (Put to z) next
+  Numbers : (to : ℕ) (z : ℤ) (next : ℕ) → IsHome to → Constant p pc to (word z) next → Selected p pc (Put to z) next
   Nulls : (to : ℕ) → IsHome to → Holds p.image pc (with_immediate Addi to 0 0) → Selected p pc (PutNull to) (pc + 4)
   Copies : (to from next : ℕ) → IsHome to → IsHome from → Copied p pc to from next → Selected p pc (Copy to from) next
   Converts : (to : ℕ) (kind : Kind) (from next : ℕ) → IsHome to → IsHome from → Converted p pc to kind from next → Selected p pc (Convert to kind from) next
@@ -109,8 +111,8 @@ pub data Selected (p : Linking) (pc : ℕ) : Line → ℕ → Type 0 where
   Spills : (slot from access base imm next : ℕ) → IsHome from → Displaced p pc 2 (p.at (Slot slot)) base imm next → Holds p.image next (storing Sw base from imm) → Selected p pc (Spill slot from access) (next + 4)
   Cuts_ : (cause : Cause) (m imm : ℕ) → IsEntry m → sum_of pc imm ≡ p.checkpoint m → Holds p.image pc (jumping 3 imm) → Selected p pc (Cut cause) (pc + 4)
   Calls : (i count imm : ℕ) → sum_of pc imm ≡ p.entry i → Holds p.image pc (jumping 1 imm) → Selected p pc (Call 10 i 10 count) (pc + 4)
-  Gets : (imm : ℕ) → sum_of pc imm ≡ p.gets → Holds p.image pc (jumping 1 imm) → Selected p pc (GetChar 10) (pc + 4)
-  Puts_ : (imm : ℕ) → sum_of pc imm ≡ p.puts → Holds p.image pc (jumping 1 imm) → Selected p pc (PutChar 10 10) (pc + 4)
+  Gets : (imm : ℕ) → sum_of pc imm ≡ p.gets → Holds p.image pc (jumping 1 imm) → Selected p pc (Serve 10 Getchar None) (pc + 4)
+  Puts_ : (imm : ℕ) → sum_of pc imm ≡ p.puts → Holds p.image pc (jumping 1 imm) → Selected p pc (Serve 10 Putchar (Some 10)) (pc + 4)
 
 -- a jump from pc
 pub record Jumps (p : Linking) (pc target : ℕ) : Type 0 where
@@ -182,10 +184,33 @@ IsDead blocks b r = (n : ℕ) → reads_first blocks n b r ≡ false
 pub data Joined (p : Linking) (blocks : List Block) (i pc : ℕ) : Line → List Line → Exit → Type 0 where
   Decides : (to : ℕ) (op : Comparison) (kind : Kind) (left right a b : ℕ) → IsHome left → IsHome right → IsPromoted kind ⊎ (kind ≡ Ptr) → IsDead blocks a to → IsDead blocks b to → Tested p pc (comparing kind left right op) (p.place i a) (p.place i b) → Joined p blocks i pc (Compare to op kind left right) [] (Branch to a b)
 
--- the lines of function i, which has these blocks and this frame, from pc on
-abbrev pub Stands : Linking → List Block → ℕ → ℕ → ℕ → List Line → Exit → Type 0
-Stands p blocks i frame pc [] exit = ExitAt p i frame pc exit
-Stands p blocks i frame pc (line ∷ rest) exit = ((next : ℕ) × Selected p pc line next × Stands p blocks i frame next rest exit) ⊎ Joined p blocks i pc line rest exit
+-- an operator with a constant on its right, as an instruction with an immediate (RISC-V Unprivileged ISA, 2.4)
+pub data Immediate (z : ℤ) (kind : Kind) : BinaryOp → Op → ℕ → Type 0 where
+  AddsBy : Immediate z kind Add Addi (word z)
+  SubtractsBy : (imm : ℕ) → sum_of imm (word z) ≡ 0 → Immediate z kind Subtract Addi imm
+  AndsBy : Immediate z kind BitAnd Andi (word z)
+  OrsBy : Immediate z kind BitOr Ori (word z)
+  XorsBy : Immediate z kind BitXor Xori (word z)
+  ShiftsLeftBy : Immediate z kind ShiftLeft Slli (word z)
+  ShiftsRightBy : Immediate z kind ShiftRight (by_sign kind Srai Srli) (word z)
+
+-- what is left behind a line that sets `to` doesn't read register r
+abbrev pub IsSpent : List Block → List Line → Exit → ℕ → ℕ → Type 0
+IsSpent blocks rest exit to r = (r ≡ to) ⊎ ((n : ℕ) → lives_before (reads_first blocks n) rest exit r ≡ false)
+
+-- from pc to next, a constant and the line that uses it as one, where nothing else reads the constant's register
+pub data Folded (p : Linking) (blocks : List Block) (pc : ℕ) : Line → Line → List Line → Exit → ℕ → Type 0 where
+  ComputesBy : (r : ℕ) (z : ℤ) (to : ℕ) (op : BinaryOp) (kind : Kind) (left : ℕ) (rest : List Line) (exit : Exit) (by : Op) (imm : ℕ) → IsHome to → IsHome left → left ≢ r → IsPromoted kind → Immediate z kind op by imm → IsSpent blocks rest exit to r → Holds p.image pc (with_immediate by to left imm) → Folded p blocks pc (Put r z) (Compute to op kind left r) rest exit (pc + 4)
+
+abbrev mutual
+  -- the lines of function i, which has these blocks and this frame, from pc on: a line for itself, or with its exit, or with the next
+  pub Stands : Linking → List Block → ℕ → ℕ → ℕ → List Line → Exit → Type 0
+  Stands p blocks i frame pc [] exit = ExitAt p i frame pc exit
+  Stands p blocks i frame pc (line ∷ rest) exit = ((next : ℕ) × Selected p pc line next × Stands p blocks i frame next rest exit) ⊎ Joined p blocks i pc line rest exit ⊎ Paired p blocks i frame pc line rest exit
+
+  pub Paired : Linking → List Block → ℕ → ℕ → ℕ → Line → List Line → Exit → Type 0
+  Paired p blocks i frame pc line [] exit = ⊥
+  Paired p blocks i frame pc line (user ∷ rest) exit = (next : ℕ) × Folded p blocks pc line user rest exit next × Stands p blocks i frame next rest exit
 
 -- the test of the stack, near or over a jump
 pub data Checked (p : Linking) (pc : ℕ) : ℕ → Type 0 where

@@ -16,10 +16,11 @@ use Rattle.im_store.specs.declared.operators.UnaryOp.TheVariants.{Negate, Comple
 use Rattle.im_store.specs.declared.operators.Comparison.{Comparison}
 use Rattle.im_store.specs.declared.operators.Comparison.TheVariants.{Less, Greater, LessOrEqual, GreaterOrEqual, Equal, NotEqual}
 use Rattle.im_store.specs.Objects.{Name, Named, Slot, Shape}
+use Rattle.im_serve.specs.declared.service.Service.TheVariants.{Getchar, Putchar}
 use Rattle.im_block.specs.declared.code.Place.{Place}
 use Rattle.im_block.specs.declared.code.Place.TheVariants.{Static, Local, Through}
 use Rattle.im_block.specs.declared.code.Line.{Line}
-use Rattle.im_block.specs.declared.code.Line.TheVariants.{Put, PutNull, Copy, Convert, Unary, Not, Compute, Compare, Move, Distance, Address, Read, Write, Reload, Spill, Cut, Call, GetChar, PutChar}
+use Rattle.im_block.specs.declared.code.Line.TheVariants.{Put, PutNull, Copy, Convert, Unary, Not, Compute, Compare, Move, Distance, Address, Read, Write, Reload, Spill, Cut, Call, Serve}
 use Rattle.im_block.specs.declared.code.Exit.{Exit}
 use Rattle.im_block.specs.declared.code.Exit.TheVariants.{Jump, Turn, Branch, Return}
 use Rattle.im_block.specs.declared.code.Block.{Block}
@@ -30,7 +31,7 @@ use Rattle.im_frame.specs.declared.layout.Layout.{Layout}
 use Rattle.im_frame.specs.Layout.{place_of as place_in, IsLayout}
 use Rattle.im_select_relation.specs.Linking.{Linking, LaidOut, frame_of}
 use Rattle.im_select_relation.specs.Linked.{FunctionAt}
-use Rattle.im_select_relation.specs.Selected.{IsHome, IsEntry, ones, unused_bits, Test, nonzero, comparing, IsDead}
+use Rattle.im_select_relation.specs.Selected.{IsHome, IsEntry, ones, unused_bits, Test, nonzero, comparing, IsDead, Immediate, IsSpent}
 
 -- the lines of a function; the places of objects in frames and of statics; the labels of the function's blocks, of the
 -- functions' entries, of the lines for an exhausted stack, of a checkpoint by its last register, of putchar and getchar
@@ -128,8 +129,8 @@ pub data SelectedIn (w : Lines) (k : ℕ) : Line → ℕ → Type 0 where
   Spills : (slot from access base imm next : ℕ) → IsHome from → DisplacedIn w k 2 (w.at (Slot slot)) base imm next → Accessing w next (storing Sw base from imm) access → SelectedIn w k (Spill slot from access) (suc next)
   Cuts_ : (cause : Cause) (m : ℕ) → IsEntry m → HasLine w k (jumping 3 0) (Some (w.checkpoint m)) None (Some cause) → SelectedIn w k (Cut cause) (suc k)
   Calls : (i count : ℕ) → Aimed w k (jumping 1 0) (w.entry i) → SelectedIn w k (Call 10 i 10 count) (suc k)
-  Gets : Aimed w k (jumping 1 0) w.gets → SelectedIn w k (GetChar 10) (suc k)
-  Puts_ : Aimed w k (jumping 1 0) w.puts → SelectedIn w k (PutChar 10 10) (suc k)
+  Gets : Aimed w k (jumping 1 0) w.gets → SelectedIn w k (Serve 10 Getchar None) (suc k)
+  Puts_ : Aimed w k (jumping 1 0) w.puts → SelectedIn w k (Serve 10 Putchar (Some 10)) (suc k)
 
 -- a jump from k to a label
 abbrev pub JumpsIn : Lines → ℕ → ℕ → Type 0
@@ -168,10 +169,19 @@ ExitIn w starts frame k (Return from) = ReturnIn w frame k from
 pub data JoinedIn (w : Lines) (blocks : List Block) (starts : ℕ → ℕ) (k : ℕ) : Line → List Line → Exit → Type 0 where
   Decides : (to : ℕ) (op : Comparison) (kind : Kind) (left right a b : ℕ) → IsHome left → IsHome right → IsPromoted kind ⊎ (kind ≡ Ptr) → IsDead blocks a to → IsDead blocks b to → TestedIn w starts k (comparing kind left right op) a b → JoinedIn w blocks starts k (Compare to op kind left right) [] (Branch to a b)
 
--- the lines of a function that has these blocks and this frame, from k on
-abbrev pub StandsIn : Lines → List Block → (ℕ → ℕ) → ℕ → ℕ → List Line → Exit → Type 0
-StandsIn w blocks starts frame k [] exit = ExitIn w starts frame k exit
-StandsIn w blocks starts frame k (line ∷ rest) exit = ((next : ℕ) × SelectedIn w k line next × StandsIn w blocks starts frame next rest exit) ⊎ JoinedIn w blocks starts k line rest exit
+-- from k to next, a constant and the line that uses it as one, where nothing else reads the constant's register
+pub data FoldedIn (w : Lines) (blocks : List Block) (k : ℕ) : Line → Line → List Line → Exit → ℕ → Type 0 where
+  ComputesBy : (r : ℕ) (z : ℤ) (to : ℕ) (op : BinaryOp) (kind : Kind) (left : ℕ) (rest : List Line) (exit : Exit) (by : Op) (imm : ℕ) → IsHome to → IsHome left → left ≢ r → IsPromoted kind → Immediate z kind op by imm → IsSpent blocks rest exit to r → Plain w k (with_immediate by to left imm) → FoldedIn w blocks k (Put r z) (Compute to op kind left r) rest exit (suc k)
+
+abbrev mutual
+  -- the lines of a function that has these blocks and this frame, from k on
+  pub StandsIn : Lines → List Block → (ℕ → ℕ) → ℕ → ℕ → List Line → Exit → Type 0
+  StandsIn w blocks starts frame k [] exit = ExitIn w starts frame k exit
+  StandsIn w blocks starts frame k (line ∷ rest) exit = ((next : ℕ) × SelectedIn w k line next × StandsIn w blocks starts frame next rest exit) ⊎ JoinedIn w blocks starts k line rest exit ⊎ PairedIn w blocks starts frame k line rest exit
+
+  pub PairedIn : Lines → List Block → (ℕ → ℕ) → ℕ → ℕ → Line → List Line → Exit → Type 0
+  PairedIn w blocks starts frame k line [] exit = ⊥
+  PairedIn w blocks starts frame k line (user ∷ rest) exit = (next : ℕ) × FoldedIn w blocks k line user rest exit next × StandsIn w blocks starts frame next rest exit
 
 -- the test of the stack, near or over a jump
 pub data CheckedIn (w : Lines) (k : ℕ) : ℕ → Type 0 where

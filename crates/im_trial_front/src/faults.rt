@@ -9,6 +9,7 @@ fn quantity_text(quantity: Quantity) -> &'static str {
         Quantity::Statics => " statics",
         Quantity::Frame => " frame",
         Quantity::Code => " code",
+        Quantity::Derivations => " derivations",
     }
 }
 
@@ -22,6 +23,7 @@ fn line_text(why: LineFault) -> &'static str {
         LineFault::BadDirective => " bad directive",
         LineFault::Syntax => " syntax",
         LineFault::Nesting => " nesting",
+        LineFault::Links => " links",
         LineFault::Rule(_) => " rule",
     }
 }

@@ -1,7 +1,7 @@
 use im_check_name_map::TagList;
 use im_check_scopes::{Entity, Scope};
 use im_check_stop::Stop as CheckStop;
-use im_check_type_specifiers::{Qualified, mention, specified_type, type_at_file};
+use im_check_type_specifiers::{Qualified, declare_alone, mention, specified_type, type_at_file};
 use im_ctree::{Specifier, SpecifierKind, SpecifierWord};
 use im_ctype::Integer;
 use im_trial::{Case, Stop};
@@ -96,6 +96,23 @@ fn tell_tagged(scope: &mut Scope, lists: &TagList, case: &mut Case) -> Result<()
     Ok(())
 }
 
+/// `struct list;` in a block, and `struct list` behind it.
+fn tell_lone(scope: &mut Scope, lists: &TagList, case: &mut Case) -> Result<(), Stop> {
+    let alloc = case.alloc;
+    let tag = Vec::from_slice(alloc, b"list")?;
+    let tagged = [Specifier {
+        at: 12,
+        kind: SpecifierKind::StructTag(tag),
+    }];
+    scope.open()?;
+    if declare_alone(alloc, scope, lists, 9, 9, b"list").is_err() {
+        return Err(Stop::Memory);
+    }
+    let found = specified_type(alloc, scope, lists, 12, &tagged);
+    tell_type(&found, case);
+    Ok(())
+}
+
 /// `static int`, at file scope and in a block.
 fn tell_stored(scope: &Scope, lists: &TagList, case: &mut Case) {
     let alloc = case.alloc;
@@ -114,11 +131,12 @@ fn tell_specifiers(alloc: Global, case: &mut Case) -> Result<(), Stop> {
     tell_named(&scope, &lists, case)?;
     tell_tagged(&mut scope, &lists, case)?;
     tell_stored(&scope, &lists, case);
+    tell_lone(&mut scope, &lists, case)?;
     Ok(())
 }
 
-/// The types of `unsigned const long`, of `text`, of `const struct list` and of the words `static
-/// int`.
+/// The types of `unsigned const long`, of `text`, of `const struct list`, of the words `static int`,
+/// and of `struct list` behind `struct list;` in a block.
 pub(crate) fn specifiers(case: &mut Case) {
     if let Err(stop) = tell_specifiers(case.alloc, case) {
         case.end(stop);

@@ -24,7 +24,8 @@ fn change(text: &mut [u8], words: &str, case: &mut Case) {
     }
 }
 
-/// `changed-image`, a name, a text, other bytes as places and values, more bytes behind: why that is refused.
+/// `changed-image`, a name, a text, other bytes as places and values, more bytes behind: why that
+/// is refused.
 pub(crate) fn changed(texts: &Texts, row: &Row<'_>, case: &mut Case) {
     let mut text = case.bytes_of(texts, row, 2);
     for words in row.field(3).split_ascii_whitespace() {
@@ -84,7 +85,8 @@ fn tell_image(image: &Image, text: &[u8], case: &mut Case) {
     }
 }
 
-/// `image`, a name, a text: its version, form, stack, entry, code and objects, and whether it is written again the same.
+/// `image`, a name, a text: its version, form, stack, entry, code and objects, and whether it is
+/// written again the same.
 pub(crate) fn image(texts: &Texts, row: &Row<'_>, case: &mut Case) {
     let text = case.bytes_of(texts, row, 2);
     match read_image(case.alloc, &text) {

@@ -43,7 +43,8 @@ fn callee(i: u32) -> u32
     if i < 16 { 8 } else { i - 13 }
 }
 
-// A line of a function of eight: a cut, a read, a branch over a cut, a write, a call, a cut, a return.
+// A line of a function of eight: a cut, a read, a branch over a cut, a write, a call, a cut, a
+// return.
 fn function_line(i: u32) -> Line
     requires behind { 8 ≤ i }
     requires inside { i < 261120 }
@@ -62,7 +63,8 @@ fn function_line(i: u32) -> Line
     }
 }
 
-/// Line i of a code of 261120 words: a routine, and functions of eight lines, each of which calls the one before it.
+/// Line i of a code of 261120 words: a routine, and functions of eight lines, each of which calls
+/// the one before it.
 pub fn line_at(i: u32) -> Line
     requires { i < 261120 }
     ensures { FitsAt i result }

@@ -55,7 +55,8 @@ fn tell_run(machine: &Machine<PagedMem>, went: Went, case: &mut Case) {
     case.show(machine.instructions());
 }
 
-// Runs a trace, and once more where it stops the machine: the run is told each time, and the status and the reason.
+// Runs a trace, and once more where it stops the machine: the run is told each time, and the status
+// and the reason.
 fn tell_trace(machine: &mut Machine<PagedMem>, trace: &Trace, case: &mut Case) {
     let went = machine.run(trace);
     tell_run(machine, went, case);
@@ -96,7 +97,8 @@ fn tell_period(machine: &mut Machine<PagedMem>, period: Period, case: &mut Case)
     }
 }
 
-/// `period`, a name, an image, instructions, junk, repeats: the run, the status, the reason, the length of the output.
+/// `period`, a name, an image, instructions, junk, repeats: the run, the status, the reason, the
+/// length of the output.
 pub(crate) fn period(texts: &Texts, row: &Row<'_>, case: &mut Case) {
     let period = Period {
         n: case.small(row.field(3)),

@@ -34,8 +34,8 @@ fn store(memory: &mut FlatMem, at: u32, words: &str, case: &mut Case) {
     case.say(if is_stored { " stored" } else { " refused" });
 }
 
-/// Makes an access: `store`, an address, a size and a word; `load`, an address and a size; `fill`, an address, of the bytes that are given;
-/// `bytes`, an address and their number.
+/// Makes an access: `store`, an address, a size and a word; `load`, an address and a size; `fill`,
+/// an address, of the bytes that are given; `bytes`, an address and their number.
 fn access(memory: &mut FlatMem, words: &str, bytes: &[u8], case: &mut Case) {
     let (what, rest) = case.parted(words, ' ');
     let (at, rest) = case.parted(rest, ' ');

@@ -11,7 +11,8 @@ fn tell_periods(trace: &Trace, case: &mut Case) {
     }
 }
 
-/// `periods`, a name, a text: the periods of the trace, told twice, the second time made of its periods; or why it is refused.
+/// `periods`, a name, a text: the periods of the trace, told twice, the second time made of its
+/// periods; or why it is refused.
 pub(crate) fn periods(texts: &Texts, row: &Row<'_>, case: &mut Case) {
     let text = case.bytes_of(texts, row, 2);
     match read_trace(case.alloc, &text) {

@@ -31,7 +31,8 @@ fn tell_line(lines: &[Line], place: &str, case: &mut Case) {
     }
 }
 
-/// `routine`, its name, places: how many lines it has where `lines` stands among them, and the words at the others.
+/// `routine`, its name, places: how many lines it has where `lines` stands among them, and the
+/// words at the others.
 pub(crate) fn routine(row: &Row<'_>, case: &mut Case) {
     let alloc = case.alloc;
     let Some(lines) = case.take(lines_of(alloc, row.field(1))) else {
@@ -105,7 +106,8 @@ fn runtime_lines(alloc: Global) -> Result<Vec<Line>, Stop> {
     Ok(lines)
 }
 
-/// `runtime`, a name, words: how many lines of the runtime there are, and how many of the words are those.
+/// `runtime`, a name, words: how many lines of the runtime there are, and how many of the words are
+/// those.
 pub(crate) fn runtime(texts: &Texts, row: &Row<'_>, case: &mut Case) {
     let alloc = case.alloc;
     let Some(lines) = case.take(runtime_lines(alloc)) else {

@@ -26,7 +26,8 @@ pub(crate) fn saved(texts: &Texts, row: &Row<'_>, case: &mut Case) {
     }
 }
 
-/// `upgraded-memory`, a name, a memory, another one: whether the first one is upgraded to the second.
+/// `upgraded-memory`, a name, a memory, another one: whether the first one is upgraded to the
+/// second.
 pub(crate) fn upgraded(texts: &Texts, row: &Row<'_>, case: &mut Case) {
     let memory = case.bytes_of(texts, row, 2);
     let wanted = case.bytes_of(texts, row, 3);
@@ -47,8 +48,8 @@ fn run_trace(machine: &mut Machine<PagedMem>, lines: &[u8], case: &mut Case) {
     }
 }
 
-/// `resumed`, a name, an image, a memory, a trace: how the machine that goes on with that memory runs, its commits and its
-/// instructions; or why it can't.
+/// `resumed`, a name, an image, a memory, a trace: how the machine that goes on with that memory
+/// runs, its commits and its instructions; or why it can't.
 pub(crate) fn resumed(texts: &Texts, row: &Row<'_>, case: &mut Case) {
     let Some(image) = image_of(texts, row, case) else {
         return;
@@ -96,8 +97,8 @@ fn loaded_end(image: &Image, lines: &[u8], case: &mut Case) -> Vec<u8> {
     }
 }
 
-/// `joined`, a name, an image, two traces, a trace: whether a run of the first trace that is saved, and goes on with the
-/// second one, ends in the memory in which a run of the third does.
+/// `joined`, a name, an image, two traces, a trace: whether a run of the first trace that is saved,
+/// and goes on with the second one, ends in the memory in which a run of the third does.
 pub(crate) fn joined(texts: &Texts, row: &Row<'_>, case: &mut Case) {
     let Some(image) = image_of(texts, row, case) else {
         return;

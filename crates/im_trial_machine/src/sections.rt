@@ -25,8 +25,8 @@ fn again_after(n: u32) -> u32 {
     }
 }
 
-// In each section of the loop, after each number of its instructions and with each mask, power fails, and again within
-// the recovery that follows.
+// In each section of the loop, after each number of its instructions and with each mask, power
+// fails, and again within the recovery that follows.
 fn lose_in_sections(machine: &mut Machine<PagedMem>) {
     for mask in 0..16 {
         for n in 33..70 {
@@ -51,8 +51,8 @@ fn tell_sections(machine: &mut Machine<PagedMem>, output: &[u8], case: &mut Case
     tell_variables(machine, case);
 }
 
-/// `sections`, a name, an image, an input, an output: how the machine goes on behind the losses, how it ends, whether the
-/// output is that one, and the variables.
+/// `sections`, a name, an image, an input, an output: how the machine goes on behind the losses,
+/// how it ends, whether the output is that one, and the variables.
 pub(crate) fn sections(texts: &Texts, row: &Row<'_>, case: &mut Case) {
     let input = case.bytes_of(texts, row, 3);
     let output = case.bytes_of(texts, row, 4);

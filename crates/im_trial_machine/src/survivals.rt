@@ -10,8 +10,9 @@ use std::alloc::Global;
 /// The instructions of recovery, its jump to where the run goes on included.
 const RECOVERY: u32 = 33;
 
-/// Each machine loses power after every third instruction. Where a torn flip commits, recovery goes on
-/// behind the flip and the return that follows it, so that other machines lose power after those two.
+/// Each machine loses power after every third instruction. Where a torn flip commits, recovery goes
+/// on behind the flip and the return that follows it, so that other machines lose power after those
+/// two.
 const STRIDE: u32 = 3;
 
 /// When power fails, and how.
@@ -48,7 +49,8 @@ fn next_commit(machine: &mut Machine<PagedMem>) -> Option<u32> {
     None
 }
 
-// Where the section behind the one that starts there starts: behind the return from the checkpoint that ends it.
+// Where the section behind the one that starts there starts: behind the return from the checkpoint
+// that ends it.
 fn next_start(machine: &mut Machine<PagedMem>, start: u32) -> Option<u32> {
     let length = next_commit(machine)?.checked_sub(RECOVERY)?;
     start.checked_add(length)?.checked_add(1)
@@ -102,7 +104,8 @@ fn lose(machine: &mut Machine<PagedMem>, whole: &Whole, losses: Losses) -> Optio
     Some(())
 }
 
-/// A run of an image on an input that keeps its power: its sections' starts, its instructions, and how it ends.
+/// A run of an image on an input that keeps its power: its sections' starts, its instructions, and
+/// how it ends.
 #[derive(Drop)]
 struct Whole {
     starts: Vec<u32>,
@@ -186,8 +189,9 @@ fn whole_of(image: &Image, input: &[u8], case: &mut Case) -> Option<Whole> {
     Some(Whole { starts, count, end })
 }
 
-/// `survival`, a name, an image, an input, and after how many instructions of the recovery power fails again, or `-`: how
-/// the run ends that keeps its power, and how many of the 48 with losses end so, three for each mask.
+/// `survival`, a name, an image, an input, and after how many instructions of the recovery power
+/// fails again, or `-`: how the run ends that keeps its power, and how many of the 48 with losses
+/// end so, three for each mask.
 pub(crate) fn survival(texts: &Texts, row: &Row<'_>, case: &mut Case) {
     let Some(image) = image_of(texts, row, case) else {
         return;

@@ -9,6 +9,7 @@ use crate::fault::Fault;
 use im_block::{Block, Constant, Exit, Function, Line, Object, Place, Registers, Static, Unit};
 use im_ctype::Cell;
 use im_num::{Cause, Kind};
+use im_serve::Service;
 use im_store::BinaryOp;
 use std::alloc::Global;
 
@@ -158,7 +159,11 @@ fn main_of(alloc: Global) -> Result<Function, Fault>
             left: 10,
             right: 11,
         },
-        Line::PutChar { to: 10, from: 10 },
+        Line::Serve {
+            to: 10,
+            service: Service::Putchar,
+            from: Some(10)
+        },
         Line::Cut(Cause::Return),
         Line::Read {
             to: 10,

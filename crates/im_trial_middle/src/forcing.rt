@@ -2,6 +2,7 @@ use crate::fault::{Fault, taken};
 use im_block::{Block, Exit, Function, Line, Place, Registers, Unit};
 use im_force::force;
 use im_num::Kind;
+use im_serve::Service;
 use im_trial::Case;
 use std::alloc::Global;
 
@@ -17,7 +18,14 @@ const COUNTER: [(&[Line], Exit); 4] = [
     (&[Line::Put { to: 0, number: 0 }], Exit::Return(Some(0))),
     (&[], Exit::Turn(3)),
     (
-        &[Line::GetChar { to: 0 }, Line::Not { to: 0, from: 0 }],
+        &[
+            Line::Serve {
+                to: 0,
+                service: Service::Getchar,
+                from: None,
+            },
+            Line::Not { to: 0, from: 0 },
+        ],
         Exit::Branch {
             on: 0,
             holds: 0,
@@ -39,7 +47,11 @@ const COUNTER: [(&[Line], Exit); 4] = [
                 from: 1,
                 access: 2,
             },
-            Line::PutChar { to: 0, from: 1 },
+            Line::Serve {
+                to: 0,
+                service: Service::Putchar,
+                from: Some(1),
+            },
             Line::Write {
                 place: S,
                 kind: Kind::I32,

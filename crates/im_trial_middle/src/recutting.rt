@@ -8,6 +8,7 @@ use crate::forcing::tell_cuts;
 use im_block::{Block, Exit, Function, Line, Place, Registers, Tag, Tags, Unit};
 use im_num::{Cause, Kind};
 use im_recut::recut;
+use im_serve::Service;
 use im_trial::{Case, Row, Stop};
 use std::alloc::Global;
 
@@ -28,7 +29,11 @@ fn sample(alloc: Global) -> Result<Unit, Fault>
 {
     let lines = vec![in alloc;
         Line::Cut(Cause::Entry),
-        Line::GetChar { to: 10 },
+        Line::Serve {
+            to: 10,
+            service: Service::Getchar,
+            from: None
+        },
         Line::Cut(Cause::Return),
         Line::Spill {
             slot: 0,

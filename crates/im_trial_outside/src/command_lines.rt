@@ -22,7 +22,8 @@ fn tell_words(words: &[String], case: &mut Case) {
     }
 }
 
-/// `command-line`, words with a blank between two: the command that they name, or that a usage text is told.
+/// `command-line`, words with a blank between two: the command that they name, or that a usage text
+/// is told.
 pub(crate) fn command_line(row: &Row<'_>, case: &mut Case) {
     let made = words_of(case.alloc, row.name());
     if let Some(words) = case.take(made) {

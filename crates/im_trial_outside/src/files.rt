@@ -52,8 +52,8 @@ fn tell_file(shelf: &MemShelf, name: &str, case: &mut Case) {
     }
 }
 
-/// `shelf`, a name, the call that fails or 0, steps with `;` between two: each answer; how many reads and writes were refused
-/// and how many files weren't there; and what three files hold.
+/// `shelf`, a name, the call that fails or 0, steps with `;` between two: each answer; how many
+/// reads and writes were refused and how many files weren't there; and what three files hold.
 pub(crate) fn shelf(row: &Row<'_>, case: &mut Case) {
     let failing = case.small(row.field(2));
     let made = shelf_of(case.alloc, failing);
@@ -72,8 +72,8 @@ pub(crate) fn shelf(row: &Row<'_>, case: &mut Case) {
     }
 }
 
-/// `sink`, a name, the room, the write that fails or 0, pieces with `;` between two: whether each was sent, and what is
-/// kept behind it; and how many writes were refused.
+/// `sink`, a name, the room, the write that fails or 0, pieces with `;` between two: whether each
+/// was sent, and what is kept behind it; and how many writes were refused.
 pub(crate) fn sink(row: &Row<'_>, case: &mut Case) {
     let room = case.small(row.field(2)) as usize;
     let failing = u64::from(case.small(row.field(3)));

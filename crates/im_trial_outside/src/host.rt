@@ -40,8 +40,8 @@ fn try_the_host(rt: &HostRuntime, case: &mut Case) -> Result<(), Stop> {
     Ok(())
 }
 
-/// `host`, a name: a file is stored before its folder is there, read, stored, read up to three limits, its folder is read, two
-/// texts are sent to it, and it is read.
+/// `host`, a name: a file is stored before its folder is there, read, stored, read up to three
+/// limits, its folder is read, two texts are sent to it, and it is read.
 pub(crate) fn host(rt: &HostRuntime, case: &mut Case) {
     let _ = fs::remove_dir_all(rt, FOLDER);
     let tried = try_the_host(rt, case);

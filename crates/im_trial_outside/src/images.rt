@@ -15,7 +15,8 @@ fn image_of(text: &[u8], case: &mut Case) -> Option<Image> {
     }
 }
 
-/// `dump`, a name, an image, the write that fails or 0, the room: its lines, and how many writes were refused.
+/// `dump`, a name, an image, the write that fails or 0, the room: its lines, and how many writes
+/// were refused.
 pub(crate) fn dump(texts: &Texts, row: &Row<'_>, case: &mut Case) {
     let text = case.bytes_of(texts, row, 2);
     let failing = case.small(row.field(3));

@@ -48,8 +48,8 @@ fn went_of(text: &str, case: &mut Case) -> Went {
     }
 }
 
-/// `run-lines`, a name, how the run went (On, Halted or the pc of a fault), the reason: the lines of a run with status -7,
-/// 3 commits and 42 instructions.
+/// `run-lines`, a name, how the run went (On, Halted or the pc of a fault), the reason: the lines
+/// of a run with status -7, 3 commits and 42 instructions.
 pub(crate) fn run_lines(row: &Row<'_>, case: &mut Case) {
     let went = went_of(row.field(2), case);
     let ending = Ending::of(went, case.small(row.field(3)));

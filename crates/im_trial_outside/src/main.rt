@@ -1,5 +1,5 @@
-//! Trials of what stands between the compiler and the world, each a row of a table: the words of a command, the lines that are
-//! told, files and streams.
+//! Trials of what stands between the compiler and the world, each a row of a table: the words of a
+//! command, the lines that are told, files and streams.
 #![tactic(auto)]
 
 mod command_lines;

@@ -27,8 +27,10 @@ fn source_fault_of(why: &str, number: u32, line: u32) -> Option<SourceFault> {
         "Source" => limit(Quantity::Source, number),
         "Parameters" => limit(Quantity::Parameters, number),
         "Frame" => limit(Quantity::Frame, number),
+        "Derivations" => limit(Quantity::Derivations, number),
         "Syntax" => in_line(line, LineFault::Syntax),
         "Nesting" => in_line(line, LineFault::Nesting),
+        "Links" => in_line(line, LineFault::Links),
         "Rule" => in_line(line, LineFault::Rule(number)),
         _ => None,
     }

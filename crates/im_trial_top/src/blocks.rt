@@ -72,7 +72,8 @@ fn tell_lowered(prog: &Prog, case: &mut Case)
     }
 }
 
-/// `blocks`, a name, a source: the block code of each function, a line for each of its lines and exits.
+/// `blocks`, a name, a source: the block code of each function, a line for each of its lines and
+/// exits.
 pub(crate) fn blocks(texts: &Texts, row: &Row<'_>, case: &mut Case) {
     let source = case.bytes_of(texts, row, 2);
     match compile_whole(case.alloc, &source, OPTIONS) {

@@ -10,7 +10,8 @@ const ROOM: u32 = 1_048_576;
 /// As many equal bytes are told once.
 const MANY: usize = 1000;
 
-/// Which call of the files, of `out` and of `err` fails, none where 0 stands, and the room of both streams in bytes.
+/// Which call of the files, of `out` and of `err` fails, none where 0 stands, and the room of both
+/// streams in bytes.
 #[derive(Clone, Copy)]
 pub(crate) struct Limits {
     files: u32,
@@ -104,7 +105,8 @@ fn sink_of(alloc: Global, limits: Limits, failing: u32) -> Result<MemSink, Stop>
     Ok(MemSink::new(alloc, limits.room as usize, &[u64::from(failing)])?)
 }
 
-/// Carries out a command, and tells its status, its output, and the lines of standard error that are looked for.
+/// Carries out a command, and tells its status, its output, and the lines of standard error that
+/// are looked for.
 pub(crate) fn carry_out(
     shelf: &mut MemShelf,
     command: &str,
@@ -156,8 +158,8 @@ fn tell_commands(
     }
 }
 
-/// `command`, a name, files, what fails, commands with `;` between two, the lines of standard error that are looked for,
-/// files to be told.
+/// `command`, a name, files, what fails, commands with `;` between two, the lines of standard error
+/// that are looked for, files to be told.
 pub(crate) fn command(texts: &Texts, row: &Row<'_>, case: &mut Case) {
     let limits = limits_of(row.field(3), case);
     let asked = case.bytes_of(texts, row, 5);

@@ -52,8 +52,9 @@ fn tell_losses(shelf: &mut MemShelf, count: u32, asked: &[u8], case: &mut Case) 
     }
 }
 
-/// `losses`, a name, a source, a number, the lines of standard error that are looked for: the source is run with power all
-/// the time, and then with power lost once, after each number of instructions below the one given.
+/// `losses`, a name, a source, a number, the lines of standard error that are looked for: the
+/// source is run with power all the time, and then with power lost once, after each number of
+/// instructions below the one given.
 pub(crate) fn losses(texts: &Texts, row: &Row<'_>, case: &mut Case) {
     let count = case.small(row.field(3));
     let asked = case.bytes_of(texts, row, 4);

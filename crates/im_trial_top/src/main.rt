@@ -1,4 +1,5 @@
-//! Trials of the whole compiler: sources, their meanings and their runs, and commands, each a row of a table.
+//! Trials of the whole compiler: sources, their meanings and their runs, and commands, each a row
+//! of a table.
 #![tactic(auto)]
 
 mod blocks;

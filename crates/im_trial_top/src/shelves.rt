@@ -17,7 +17,8 @@ fn file_without(alloc: Global, name: &str, room: &str) -> Result<File, Stop> {
     Ok((String::from_str(alloc, name)?, None, room))
 }
 
-// A file by its words: a name, `=` and what it holds; or a name, `:` and its room, of one that isn't there.
+// A file by its words: a name, `=` and what it holds; or a name, `:` and its room, of one that
+// isn't there.
 fn file_of(alloc: Global, texts: &Texts, words: &str) -> Result<File, Stop> {
     match words.split_once('=') {
         Some((name, held)) => file_with(alloc, texts, name, held),
@@ -28,7 +29,8 @@ fn file_of(alloc: Global, texts: &Texts, words: &str) -> Result<File, Stop> {
     }
 }
 
-/// A shelf of these files, with a blank between two, of whose calls one fails where its number isn't 0.
+/// A shelf of these files, with a blank between two, of whose calls one fails where its number
+/// isn't 0.
 pub(crate) fn shelf_of(
     alloc: Global,
     texts: &Texts,

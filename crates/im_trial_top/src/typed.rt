@@ -89,8 +89,9 @@ fn tell_prog(prog: &Prog, row: &Row<'_>, case: &mut Case) {
     }
 }
 
-/// `functions` and `statics`, a name, a source: what each is typed to; `nodes`, a function, a source: the function's nodes and
-/// its need; `frames`, a name, a source, a table of frames, names: the sizes of the functions' frames, and those of the names.
+/// `functions` and `statics`, a name, a source: what each is typed to; `nodes`, a function, a
+/// source: the function's nodes and its need; `frames`, a name, a source, a table of frames, names:
+/// the sizes of the functions' frames, and those of the names.
 pub(crate) fn typed(texts: &Texts, row: &Row<'_>, case: &mut Case) {
     let source = case.bytes_of(texts, row, 2);
     match compile_whole(case.alloc, &source, OPTIONS) {

@@ -4,6 +4,7 @@ use im_block_run::{Setting, run};
 use im_ctype::Cell;
 use im_eval::Outcome;
 use im_num::Kind;
+use im_serve::Service;
 use im_store::BinaryOp;
 use im_trial::{Case, Row, Stop};
 use std::alloc::Global;
@@ -116,7 +117,11 @@ fn main_blocks(alloc: Global) -> Result<Vec<Block>, Stop> {
         },
         read(1, of_static(Q, 4), Kind::U8),
         compute(0, BinaryOp::Add, 0, 1),
-        Line::PutChar { to: 0, from: 0 },
+        Line::Serve {
+            to: 0,
+            service: Service::Putchar,
+            from: Some(0),
+        },
         read(0, of_static(Q, 0), Kind::I32),
     ];
     push(alloc, &mut blocks, &lines, Exit::Return(Some(0)))?;

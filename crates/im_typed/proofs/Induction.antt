@@ -1,19 +1,18 @@
 -- Expressions and statements, where what calls do is related.
 use Rattle.std.proofs.Common.{ℕ, zero, suc, ◌+◌, ◌≤◌, List, [], ◌∷◌, false, length, take, drop, arith}
-use Rattle.std.specs.Prelude.{Option, Some, None, pos, nat_abs}
-use Rattle.im_num.specs.declared.kind.Kind.TheVariants.{U8}
+use Rattle.std.specs.Prelude.{Option, Some, None, pos}
 use Rattle.im_num.specs.Kinds.{wrap}
 use Rattle.im_store.specs.Numbers.{apply, apply_one}
 use Rattle.im_store.specs.Objects.{Named, Object, Value, Number, Null, Pointer, static}
 use Rattle.im_store.specs.declared.undefined.Undefined.TheVariants.{MissingResult}
 use Rattle.im_store.specs.Access.{taken}
 use Rattle.im_store.specs.Pointers.{moved_by, bytes_moved, member_at, distance, compare_values, holds}
-use Rattle.im_typed.specs.Program.{Place, Static, Local, Target, Member, Expr, Constant, NullPointer, Read, Address, Convert, Unary, Binary, Move, MoveBy, Distance, Compare, Not, And, Or, Choose, Comma, Discard, Assign, Update, Increment, Part, Call, Getchar, Putchar, Exprs, no_exprs, more_exprs, Piece, Stmt, Do, Forget, Initialise, Block, If, While, DoWhile, For, Switch, Break, Continue, Return, Stmts, no_stmts, more_stmts}
+use Rattle.im_typed.specs.Program.{Place, Static, Local, Target, Member, Expr, Constant, NullPointer, Read, Address, Convert, Unary, Binary, Move, MoveBy, Distance, Compare, Not, And, Or, Choose, Comma, Discard, Assign, Update, Increment, Part, Call, Serve, no_argument, an_argument, Exprs, no_exprs, more_exprs, Piece, Stmt, Do, Forget, Initialise, Block, If, While, DoWhile, For, Switch, Break, Continue, Return, Stmts, no_stmts, more_stmts}
 use Rattle.im_typed.specs.Runs.{Run, ◌>>=◌, give, starve, with_fuel, either}
 use Rattle.im_typed.specs.Values.{Values, cells_of, used, value_in}
 use Rattle.im_typed.specs.Meaning.{Around, Calls, Flow, Next, Broke, Continued, Returned, after_turn, place_of, value_of, values_of, turns, decides, entered, out_of_switch, forgotten, cleared, given_offsets, initialise, returned, does, does_from}
 use Rattle.im_typed.proofs.Related.{Related, Tame, tame-bind, tame-give, tame-undefined, tame-starve, tame-paid, tame-either, tame-in_store, rel-bind, rel-give, rel-look, rel-checked, rel-in_store, rel-either, rel-paid, rel-paid-zero, rel-paid-suc, rel-down}
-use Rattle.im_typed.proofs.Parts.{rel-change_store, rel-used, rel-value_in, rel-number_in, rel-read_at, rel-write_at, rel-update, rel-next_byte, rel-put_byte, rel-after, rel-after_turn, rel-decides}
+use Rattle.im_typed.proofs.Parts.{rel-change_store, rel-used, rel-value_in, rel-number_in, rel-read_at, rel-write_at, rel-update, rel-served, rel-after, rel-after_turn, rel-decides}
 
 abbrev pub within : ℕ → ℕ → ℕ → ℕ → Calls → Around
 within activation depth first capacity calls =
@@ -132,8 +131,8 @@ module _ (k b activation depth first capacity : ℕ) (calls calls' : Calls) (cal
     rel-value (Increment a change old) = rel-bind (rel-place a) (λ at. rel-update change old at (rel-give (pos 1)))
     rel-value (Part from x e) = rel-bind (rel-value e) (λ vs. rel-give (take (length (cells_of x)) (drop from vs)))
     rel-value (Call f es) = rel-bind (rel-values es) (λ vs. called.by f vs)
-    rel-value Getchar = rel-paid (rel-bind rel-look (λ w. rel-next_byte w.input))
-    rel-value (Putchar e) = rel-bind (rel-number_in (rel-value e)) (λ z. rel-paid (rel-put_byte capacity (nat_abs (wrap U8 z))))
+    rel-value (Serve service no_argument) = rel-paid (rel-served capacity service (pos 0))
+    rel-value (Serve service (an_argument e)) = rel-bind (rel-number_in (rel-value e)) (λ z. rel-paid (rel-served capacity service z))
 
     pub rel-values : (es : Exprs) → Related k b (values_of c es) (values_of d es)
     rel-values no_exprs = rel-give []

@@ -1,14 +1,16 @@
 -- What each step of the meaning keeps.
 use Rattle.std.proofs.Common.{ℕ, List, [], ◌∷◌, ◌++◌, Bool, length, refl}
-use Rattle.std.specs.Prelude.{ℤ, pos, negsuc, nat_lt}
+use Rattle.std.specs.Prelude.{ℤ}
 use Rattle.im_store.specs.declared.undefined.Undefined.TheVariants.{MissingResult}
 use Rattle.im_store.specs.Objects.{Value, Number, Store}
 use Rattle.im_store.specs.Access.{taken, read_cells, write_cells, at_place}
+use Rattle.im_serve.specs.declared.service.Service.{Service}
+use Rattle.im_serve.proofs.Rows.{law_of}
 use Rattle.im_typed.specs.declared.expression.Change.{Change}
 use Rattle.im_typed.specs.Program.{Access, Scalar}
 use Rattle.im_typed.specs.Runs.{Run, leave_store}
 use Rattle.im_typed.specs.Values.{Values, used, value_in, number_of, number_in, cells_of, read_at, write_at, changed_kind, changed, update}
-use Rattle.im_typed.specs.Meaning.{Flow, Next, Broke, Continued, Returned, after, after_turn, decides, next_byte, put_byte, change_store}
+use Rattle.im_typed.specs.Meaning.{Flow, Next, Broke, Continued, Returned, after, after_turn, decides, after_service, served, change_store}
 use Rattle.im_store.specs.Pointers.{holds}
 use Rattle.im_typed.proofs.Related.{begins_self, Related, rel-bind, rel-give, rel-undefined, rel-look, rel-checked, rel-in_store, rel-change, rel-either}
 
@@ -48,16 +50,10 @@ rel-update c old at g =
 
 -- input and output
 
-pub rel-next_byte : {k b : ℕ} (input : List ℕ) → Related k b (next_byte input) (next_byte input)
-rel-next_byte [] = rel-give (Number (negsuc 0) ∷ [])
-rel-next_byte (byte ∷ rest) =
-    rel-bind (rel-change (λ w. record w { input = rest }) (record { grown = λ w. begins_self w.output })) (λ _. rel-give (Number (pos byte) ∷ []))
-
-pub rel-put_byte : {k b : ℕ} (capacity byte : ℕ) → Related k b (put_byte capacity byte) (put_byte capacity byte)
-rel-put_byte capacity byte =
-    rel-bind rel-look (λ w. rel-either (nat_lt (length w.output) capacity)
-    (rel-bind (rel-change (λ w. record w { output = w.output ++ byte ∷ [] }) (record { grown = λ w. (byte ∷ [], refl) })) (λ _. rel-give (Number (pos byte) ∷ [])))
-    (rel-give (Number (negsuc 0) ∷ [])))
+pub rel-served : {k b : ℕ} (capacity : ℕ) (service : Service) (z : ℤ) → Related k b (served capacity service z) (served capacity service z)
+rel-served capacity service z =
+    rel-bind rel-look (λ w.
+    rel-bind (rel-change (after_service capacity service z) (record { grown = λ w. (law_of service).puts capacity z w.input w.output })) (λ _. rel-give _))
 
 -- statements
 

@@ -1,9 +1,9 @@
 -- Well-typed places and expressions, where calls are right.
-use Rattle.std.proofs.Common.{◌≡◌, ℕ, zero, suc, ◌<◌, List, [], ◌∷◌, Bool, true, false, length, take, drop, refl, sym, subst, arith}
-use Rattle.std.specs.Prelude.{Option, Some, None, ℤ, pos, negsuc, nat_abs, nat_lt, not, if◌then◌else◌, slice_get}
+use Rattle.std.proofs.Common.{◌≡◌, ℕ, zero, suc, ◌<◌, List, [], ◌∷◌, Bool, true, false, length, take, drop, inl, inr, refl, sym, subst, arith}
+use Rattle.std.specs.Prelude.{Option, Some, None, ℤ, pos, negsuc, not, if◌then◌else◌, slice_get}
 use Rattle.std.proofs.lemmas.Int.{ints}
 use Rattle.im_num.specs.declared.kind.Kind.{Kind}
-use Rattle.im_num.specs.declared.kind.Kind.TheVariants.{U8, I32, Ptr}
+use Rattle.im_num.specs.declared.kind.Kind.TheVariants.{I32, Ptr}
 use Rattle.im_num.specs.Kinds.{IsOfKind, wrap}
 use Rattle.im_num.proofs.Wrapping.{wrap-of_kind}
 use Rattle.im_store.specs.im_ctype.declared.cell.Cell.{Cell}
@@ -14,13 +14,17 @@ use Rattle.im_store.specs.Objects.{static, Value, Store, shape_of as object_shap
 use Rattle.im_store.specs.Statics.{StaticObject}
 use Rattle.im_store.specs.Pointers.{moved_by, bytes_moved, member_at, distance, compare_values, holds}
 use Rattle.im_store.proofs.OfKind.{IsOperand, apply-of_kind, apply_one-of_kind}
+use Rattle.im_serve.specs.declared.service.Service.{Service}
+use Rattle.im_serve.specs.Services.{row}
+use Rattle.im_serve.specs.Laws.{AreBytes, IsWord}
+use Rattle.im_serve.proofs.Rows.{law_of}
 use Rattle.im_typed.specs.declared.expression.Change.{Change}
 use Rattle.im_typed.specs.declared.expression.Change.TheVariants.{Number as NumberBy, Move as PointerBy}
-use Rattle.im_typed.specs.Program.{Access, Scalar, Struct, Place, Static, Local, Target, Member, Expr, Constant, NullPointer, Read, Address, Convert, Unary, Binary, Move, MoveBy, Distance, Compare, Not, And, Or, Choose, Comma, Discard, Assign, Update, Increment, Part, Call, Getchar, Putchar, Exprs, no_exprs, more_exprs, LocalObject, Func, Prog}
+use Rattle.im_typed.specs.Program.{Access, Scalar, Struct, Place, Static, Local, Target, Member, Expr, Constant, NullPointer, Read, Address, Convert, Unary, Binary, Move, MoveBy, Distance, Compare, Not, And, Or, Choose, Comma, Discard, Assign, Update, Increment, Part, Call, Serve, no_argument, an_argument, Exprs, no_exprs, more_exprs, LocalObject, Func, Prog}
 use Rattle.im_typed.specs.Runs.{World, State, Answer, Run, goes_on, checked}
 use Rattle.im_typed.specs.Values.{Values, used, number_of, number_in, cells_of, update, changed, changed_kind}
-use Rattle.im_typed.specs.Meaning.{Around, Calls, local, place_of, value_of, values_of, next_byte, put_byte}
-use Rattle.im_typed.specs.Typing.{Each, IsRightShape, IsChange, IsStep, IsPart, TakesArgument, kinds_of, parameters, result_shape, shape_of, IsTypedPlace, IsTyped, AreArguments, IsPromotedShape, IsIntegerShape}
+use Rattle.im_typed.specs.Meaning.{Around, Calls, local, place_of, value_of, values_of, served}
+use Rattle.im_typed.specs.Typing.{Each, IsInteger, IsGiven, IsRightShape, IsChange, IsStep, IsPart, TakesArgument, kinds_of, parameters, result_shape, shape_of, IsTypedPlace, IsTyped, AreArguments, IsPromotedShape, IsIntegerShape}
 use Rattle.im_typed.specs.Sound.{IsValue, IsSoundWorld, IsHere, AreValues, Fits, ArgumentsFit, KeepsWorld, IsRight}
 use Rattle.im_typed.proofs.Sounds.{keeps-trans, value-kept, here-kept, right-bind, right-give, right-weaker, right-checked, right-paid, right-either, right-used_values, right-value_in, right-scalar, right-number_in, right-integer}
 use Rattle.im_typed.proofs.SoundCells.{inside-object, moved-value, member-value, changed-value, distance-value, fits-of_values, right-read, right-write}
@@ -31,15 +35,29 @@ pub truth-of_kind : (b : Bool) → IsOfKind I32 (if b then pos 1 else pos 0)
 truth-of_kind true = record { low = omega (arith, ints); high = omega (arith, ints) }
 truth-of_kind false = record { low = omega (arith, ints); high = omega (arith, ints) }
 
-none-of_kind : IsOfKind I32 (negsuc 0)
-none-of_kind = record { low = omega (arith, ints); high = omega (arith, ints) }
+-- a word is a kind of integers
+word-integer : (kind : Kind) → IsWord kind → IsInteger kind
+word-integer kind (inl e) = subst IsInteger (sym e) tt
+word-integer kind (inr e) = subst IsInteger (sym e) tt
 
-byte-of_kind : (b : ℕ) → b < 256 → IsOfKind I32 (pos b)
-byte-of_kind b lt = record { low = omega (arith, ints); high = omega (arith, ints) }
+-- an argument of a service is an integer
+given-integer : (p : Option Kind) (shape : Option Access) → ((kind : Kind) → p ≡ Some kind → IsWord kind) → IsGiven p shape → IsIntegerShape shape
+given-integer None shape w h = absurd h
+given-integer (Some kind) shape w h = subst IsIntegerShape (sym h) (word-integer kind (w kind refl))
 
-byte-below : (z : ℤ) → IsOfKind U8 z → nat_abs z < 256
-byte-below (pos n) h = omega (arith, ints, h.high)
-byte-below (negsuc n) h = absurd (omega (arith, ints, h.low))
+pub given-kind : (p : Option Kind) (shape : Option Access) → ((kind : Kind) → p ≡ Some kind → IsWord kind) → IsGiven p shape → (kind : Kind) × (shape ≡ Some (Scalar kind)) × IsInteger kind
+given-kind None shape w h = absurd h
+given-kind (Some kind) shape w h = (kind, h, word-integer kind (w kind refl))
+
+-- bytes of input
+bytes-of : (bytes : List ℕ) → Each (λ b. b < 256) bytes → AreBytes bytes
+bytes-of [] h = tt
+bytes-of (b ∷ rest) h = (h.0, bytes-of rest h.1)
+
+each-drop : (n : ℕ) (bytes : List ℕ) → Each (λ b. b < 256) bytes → Each (λ b. b < 256) (drop n bytes)
+each-drop zero bytes h = h
+each-drop (suc n) [] h = tt
+each-drop (suc n) (b ∷ rest) h = each-drop n rest h.1
 
 -- an element is there
 pub there : {A : Type 0} (xs : List A) (n : ℕ) → n < length xs → (x : A) × (slice_get xs n ≡ Some x)
@@ -131,29 +149,19 @@ module _ (g : Prog) where
         refl,
       )))))
 
-  -- input and output
+  -- a service
 
-  right-next_byte : (bytes : List ℕ) (s : State) → Each (λ b. b < 256) bytes → IsSoundWorld g.statics s.world → IsRight g.statics s.world (Fits (Some (Scalar I32))) (next_byte bytes s)
-  right-next_byte [] s h sane = right-give g.statics s _ sane ((tt, none-of_kind), refl)
-  right-next_byte (b ∷ rest) s h sane = record {
-    by = (
-      record { store = sane.store; input = h.1 },
-      record { more = omega arith; depth = refl; same = λ o. refl },
-      ((tt, byte-of_kind b h.0), refl),
-    );
-  }
-
-  right-put_byte : (capacity b : ℕ) (s : State) → b < 256 → IsSoundWorld g.statics s.world → IsRight g.statics s.world (Fits (Some (Scalar I32))) (put_byte capacity b s)
-  right-put_byte capacity b s lt sane =
-      right-either g.statics s (nat_lt (length s.world.output) capacity) _ _
-      (record {
+  right-served : (capacity : ℕ) (service : Service) (z : ℤ) (s : State) → IsSoundWorld g.statics s.world → IsRight g.statics s.world (Fits (Some (Scalar (row service).result))) (served capacity service z s)
+  right-served capacity service z s sane =
+      let law = law_of service in
+      let taken = law.takes capacity z s.world.input s.world.output in
+      record {
         by = (
-          record { store = sane.store; input = sane.input },
+          record { store = sane.store; input = subst (Each (λ b. b < 256)) (sym taken.1) (each-drop taken.0 s.world.input sane.input) },
           record { more = omega arith; depth = refl; same = λ o. refl },
-          ((tt, byte-of_kind b lt), refl),
+          ((word-integer (row service).result law.result, law.value capacity z s.world.input s.world.output (bytes-of s.world.input sane.input)), refl),
         );
-      })
-      (right-give g.statics s _ sane ((tt, none-of_kind), refl))
+      }
 
   module _ (f : Func) (c : Around) (calls : RightCalls g c.calls) where
     mutual
@@ -256,13 +264,15 @@ module _ (g : Prog) where
           right-give g.statics u _ sane₁ (part-fits g.statics u.world from x (shape_of g e) vs t.2 h))
       right-value (Call n es) s t sane here =
           right-bind g.statics (right-values es (parameters (slice_get g.funcs n)) s t.1 sane here) (λ vs u sane₁ kept h. calls.by n vs u sane₁ h)
-      right-value Getchar s t sane here =
-          right-paid g.statics (Fits (Some (Scalar I32))) s.world s.fuel _ (λ left.
-          right-next_byte s.world.input (record { world = s.world; fuel = left }) sane.input sane)
-      right-value (Putchar e) s t sane here =
-          right-bind g.statics (right-number_in g.statics I32 (at-shape t.1 (right-value e s t.0 sane here))) (λ z u sane₁ kept h.
-          right-paid g.statics (Fits (Some (Scalar I32))) u.world u.fuel _ (λ left.
-          right-put_byte c.capacity (nat_abs (wrap U8 z)) (record { world = u.world; fuel = left }) (byte-below (wrap U8 z) (wrap-of_kind U8 z)) sane₁))
+      right-value (Serve service no_argument) s t sane here =
+          right-paid g.statics (Fits (Some (Scalar (row service).result))) s.world s.fuel _ (λ left.
+          right-served c.capacity service (pos 0) (record { world = s.world; fuel = left }) sane)
+      right-value (Serve service (an_argument e)) s t sane here =
+          right-bind g.statics
+          (right-integer g.statics (shape_of g e) (given-integer (row service).parameter (shape_of g e) (law_of service).parameter t.1) (right-value e s t.0 sane here))
+          (λ z u sane₁ kept h.
+          right-paid g.statics (Fits (Some (Scalar (row service).result))) u.world u.fuel _ (λ left.
+          right-served c.capacity service z (record { world = u.world; fuel = left }) sane₁))
 
       pub right-values : (es : Exprs) (os : List LocalObject) (s : State) → AreArguments g f os es → IsSoundWorld g.statics s.world → IsHere f c s.world → IsRight g.statics s.world (ArgumentsFit os) (values_of c es s)
       right-values no_exprs [] s t sane here = right-give g.statics s [] sane tt

@@ -3,7 +3,7 @@ use Rattle.std.specs.Prelude.{ℕ, ◌+◌, ◌*◌, ◌/◌, length, sum_by, Op
 use Rattle.im_store.specs.Objects.{same_kind}
 use Rattle.im_typed.specs.declared.expression.Change.{Change}
 use Rattle.im_typed.specs.declared.expression.Change.TheVariants.{Number as NumberBy, Move as PointerBy}
-use Rattle.im_typed.specs.Program.{Access, Scalar, Struct, Place, Static, Local, Target, Member, Expr, Constant, NullPointer, Read, Address, Convert, Unary, Binary, Move, MoveBy, Distance, Compare, Not, And, Or, Choose, Comma, Discard, Assign, Update, Increment, Part, Call, Getchar, Putchar, Exprs, no_exprs, more_exprs, Piece, Stmt, Do, Forget, Initialise, Block, If, While, DoWhile, For, Switch, Break, Continue, Return, Stmts, no_stmts, more_stmts, LocalObject, Func, Prog}
+use Rattle.im_typed.specs.Program.{Access, Scalar, Struct, Place, Static, Local, Target, Member, Expr, Constant, NullPointer, Read, Address, Convert, Unary, Binary, Move, MoveBy, Distance, Compare, Not, And, Or, Choose, Comma, Discard, Assign, Update, Increment, Part, Call, Serve, no_argument, an_argument, Exprs, no_exprs, more_exprs, Piece, Stmt, Do, Forget, Initialise, Block, If, While, DoWhile, For, Switch, Break, Continue, Return, Stmts, no_stmts, more_stmts, LocalObject, Func, Prog}
 
 -- the cells of a struct assignment
 abbrev pub struct_cells : Access → ℕ
@@ -46,8 +46,8 @@ abbrev mutual
   expr_nodes (Increment a change old) = 1 + conversions_in change + place_nodes a
   expr_nodes (Part from x e) = 1 + expr_nodes e
   expr_nodes (Call f es) = 1 + exprs_nodes es
-  expr_nodes Getchar = 1
-  expr_nodes (Putchar e) = 1 + expr_nodes e
+  expr_nodes (Serve service no_argument) = 1
+  expr_nodes (Serve service (an_argument e)) = 1 + expr_nodes e
 
   pub exprs_nodes : Exprs → ℕ
   exprs_nodes no_exprs = 0

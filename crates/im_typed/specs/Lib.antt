@@ -13,4 +13,5 @@ pub mod Laws
 pub mod Samples
 pub use Rattle.im_store.specs.im_ctype
 pub use Rattle.im_store.specs as im_store
+pub use Rattle.im_serve.specs as im_serve
 pub mod StructsLaws

@@ -1,16 +1,17 @@
--- What expressions, initialisers and statements do, from left to right (C11 6.5, 6.7.9, 6.8), and getchar and putchar (C11 7.21.7).
-use Rattle.std.specs.Prelude.{ℕ, zero, suc, ◌+◌, ◌==◌, Bool, true, false, not, List, [], ◌∷◌, ◌++◌, map, length, take, drop, ℤ, pos, negsuc, nat_abs, Option, Some, None, nat_lt, if◌then◌else◌}
+-- What expressions, initialisers and statements do, from left to right (C11 6.5, 6.7.9, 6.8), and calls of services.
+use Rattle.std.specs.Prelude.{ℕ, zero, suc, ◌+◌, ◌==◌, Bool, true, false, not, List, [], ◌∷◌, ◌++◌, map, length, take, drop, ℤ, pos, Option, Some, None, if◌then◌else◌}
 use Rattle.std.specs.Ordering.{int_eq}
 use Rattle.im_num.specs.declared.kind.Kind.{Kind}
-use Rattle.im_num.specs.declared.kind.Kind.TheVariants.{U8}
 use Rattle.im_num.specs.Kinds.{wrap}
 use Rattle.im_store.specs.im_ctype.declared.cell.Cell.{Cell}
 use Rattle.im_store.specs.Numbers.{apply, apply_one}
 use Rattle.im_store.specs.Objects.{Named, Object, static, Value, Number, Null, Pointer, Unset, Shape, Store, same_object, zero_of}
 use Rattle.im_store.specs.Pointers.{moved_by, bytes_moved, member_at, distance, compare_values, holds}
 use Rattle.im_typed.specs.declared.statement.Case.{Case}
-use Rattle.im_typed.specs.Program.{Place, Static, Local, Target, Member, Expr, Constant, NullPointer, Read, Address, Convert, Unary, Binary, Move, MoveBy, Distance, Compare, Not, And, Or, Choose, Comma, Discard, Assign, Update, Increment, Part, Call, Getchar, Putchar, Exprs, no_exprs, more_exprs, Piece, Stmt, Do, Forget, Initialise, Block, If, While, DoWhile, For, Switch, Break, Continue, Return, Stmts, no_stmts, more_stmts}
-use Rattle.im_typed.specs.Runs.{Run, ◌>>=◌, give, starve, look, change, with_fuel, either, checked, in_store}
+use Rattle.im_typed.specs.Program.{Place, Static, Local, Target, Member, Expr, Constant, NullPointer, Read, Address, Convert, Unary, Binary, Move, MoveBy, Distance, Compare, Not, And, Or, Choose, Comma, Discard, Assign, Update, Increment, Part, Call, Serve, no_argument, an_argument, Exprs, no_exprs, more_exprs, Piece, Stmt, Do, Forget, Initialise, Block, If, While, DoWhile, For, Switch, Break, Continue, Return, Stmts, no_stmts, more_stmts}
+use Rattle.im_serve.specs.declared.service.Service.{Service}
+use Rattle.im_serve.specs.Services.{serve}
+use Rattle.im_typed.specs.Runs.{World, Run, ◌>>=◌, give, starve, look, change, with_fuel, either, checked, in_store}
 use Rattle.im_typed.specs.Values.{Values, scalar, number, truth, used, value_in, number_in, cells_of, read_at, write_at, update}
 
 -- what a call does, by the number of the function and the arguments
@@ -26,20 +27,18 @@ pub record Around : Type 0 where
   pub capacity : ℕ
   pub calls : Calls
 
--- the next byte of input, or -1 at its end
-abbrev pub next_byte : List ℕ → Run Values
-next_byte [] = number (negsuc 0)
-next_byte (b ∷ rest) = do
-  _ ← change (λ w. record w { input = rest })
-  number (pos b)
+-- input and output after a service
+abbrev pub after_service : ℕ → Service → ℤ → World → World
+after_service capacity service z w =
+    let reply = serve service capacity z w.input w.output in
+    record w { input = reply.input; output = reply.output }
 
--- a byte more of output where there is room, else -1
-abbrev pub put_byte : ℕ → ℕ → Run Values
-put_byte capacity b = do
+-- what a service gives for its argument, or for 0 where it has no parameter
+abbrev pub served : ℕ → Service → ℤ → Run Values
+served capacity service z = do
   w ← look
-  either (nat_lt (length w.output) capacity) (do
-    _ ← change (λ w. record w { output = w.output ++ b ∷ [] })
-    number (pos b)) (number (negsuc 0))
+  _ ← change (after_service capacity service z)
+  number (serve service capacity z w.input w.output).value
 
 module _ (c : Around) where
   abbrev pub local : ℕ → Object
@@ -134,12 +133,10 @@ module _ (c : Around) where
     value_of (Call f es) = do
       vs ← values_of es
       c.calls f vs
-    value_of Getchar = with_fuel (do
-      w ← look
-      next_byte w.input)
-    value_of (Putchar e) = do
+    value_of (Serve service no_argument) = with_fuel (served c.capacity service (pos 0))
+    value_of (Serve service (an_argument e)) = do
       z ← number_in (value_of e)
-      with_fuel (put_byte c.capacity (nat_abs (wrap U8 z)))
+      with_fuel (served c.capacity service z)
 
     -- the arguments of a call, in order
     pub values_of : Exprs → Run (List Value)

@@ -6,6 +6,7 @@ use Rattle.im_store.specs.declared.operators.BinaryOp.{BinaryOp}
 use Rattle.im_store.specs.declared.operators.Comparison.{Comparison}
 use Rattle.im_store.specs.declared.operators.UnaryOp.{UnaryOp}
 use Rattle.im_store.specs.Statics.{StaticObject}
+use Rattle.im_serve.specs.declared.service.Service.{Service}
 use Rattle.im_typed.specs.declared.expression.Change.{Change}
 use Rattle.im_typed.specs.declared.statement.Case.{Case}
 
@@ -46,8 +47,12 @@ mutual
     Increment : (place : Place) (change : Change) (old : Bool) → Expr
     Part : (from : ℕ) (access : Access) (whole : Expr) → Expr
     Call : (function : ℕ) (arguments : Exprs) → Expr
-    Getchar : Expr
-    Putchar : (operand : Expr) → Expr
+    Serve : (service : Service) (argument : Argument) → Expr
+
+  -- what a service is given
+  pub data Argument : Type 0 where
+    no_argument : Argument
+    an_argument : Expr → Argument
 
   pub data Exprs : Type 0 where
     no_exprs : Exprs

@@ -13,8 +13,9 @@ use Rattle.im_store.specs.Statics.{StaticObject, with_statics}
 use Rattle.im_store.specs.Outcomes.{Outcome, Undef, More, End, variables}
 use Rattle.im_typed.specs.declared.expression.Change.TheVariants.{Number as NumberBy}
 use Rattle.im_typed.specs.declared.statement.Case.{Case}
-use Rattle.im_typed.specs.Program.{Access, Scalar, Struct, Place, Static, Local, Target, Member, Expr, Constant, NullPointer, Read, Address, Convert, Binary, Move, Distance, Compare, Choose, Assign, Update, Increment, Part, Call, Getchar, Putchar, Exprs, no_exprs, more_exprs, Piece, Stmt, Do, Forget, Initialise, Block, If, For, Switch, Break, Return, Stmts, no_stmts, more_stmts, LocalObject, Func}
+use Rattle.im_typed.specs.Program.{Access, Scalar, Struct, Place, Static, Local, Target, Member, Expr, Constant, NullPointer, Read, Address, Convert, Binary, Move, Distance, Compare, Choose, Assign, Update, Increment, Part, Call, Serve, no_argument, an_argument, Exprs, no_exprs, more_exprs, Piece, Stmt, Do, Forget, Initialise, Block, If, For, Switch, Break, Return, Stmts, no_stmts, more_stmts, LocalObject, Func}
 use Rattle.im_typed.specs.Programs.{Setting}
+use Rattle.im_serve.specs.declared.service.Service.TheVariants.{Getchar, Putchar}
 
 -- expressions, places and statements of ints
 
@@ -197,14 +198,20 @@ uses_missing_result =
     program []
     (function 0 (Some I32) [] (Do (Call 1 no_exprs) ∷ returns (plus (Call 1 no_exprs) (int 1)) ∷ []) ∷ function 0 (Some I32) [] [] ∷ [])
 
+abbrev pub byte_read : Expr
+byte_read = Serve Getchar no_argument
+
+abbrev pub byte_written : ℕ → Expr
+byte_written n = Serve Putchar (an_argument (int n))
+
 -- `putchar('a'); return putchar('b');`
 abbrev pub writes_twice : Setting
-writes_twice = main_only [] (Do (Putchar (int 97)) ∷ returns (Putchar (int 98)) ∷ [])
+writes_twice = main_only [] (Do (byte_written 97) ∷ returns (byte_written 98) ∷ [])
 
 -- `int a; a = getchar(); return a * 1000 + getchar();`
 abbrev pub reads_twice : Setting
 reads_twice =
-    main_only (int_object ∷ []) (Forget 0 ∷ set (Local 0) Getchar ∷ returns (plus (times (get (Local 0)) (int 1000)) Getchar) ∷ [])
+    main_only (int_object ∷ []) (Forget 0 ∷ set (Local 0) byte_read ∷ returns (plus (times (get (Local 0)) (int 1000)) byte_read) ∷ [])
 
 -- `unsigned h(void) { return -1; } int main(void) { return h() < 1; }`, and the same of an int h
 abbrev pub compares_with_one : Kind → Setting

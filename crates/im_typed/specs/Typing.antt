@@ -10,10 +10,11 @@ use Rattle.im_store.specs.declared.operators.BinaryOp.{BinaryOp}
 use Rattle.im_store.specs.declared.operators.BinaryOp.TheVariants.{ShiftLeft, ShiftRight}
 use Rattle.im_store.specs.Objects.{Name, Named, Slot, Link, Value, Number, Null, Pointer, Unset, kind_at}
 use Rattle.im_store.specs.Statics.{StaticObject}
+use Rattle.im_serve.specs.Services.{row, IsNullary}
 use Rattle.im_typed.specs.declared.expression.Change.{Change}
 use Rattle.im_typed.specs.declared.expression.Change.TheVariants.{Number as NumberBy, Move as PointerBy}
 use Rattle.im_typed.specs.declared.statement.Case.{Case}
-use Rattle.im_typed.specs.Program.{Access, Scalar, Struct, Place, Static, Local, Target, Member, Expr, Constant, NullPointer, Read, Address, Convert, Unary, Binary, Move, MoveBy, Distance, Compare, Not, And, Or, Choose, Comma, Discard, Assign, Update, Increment, Part, Call, Getchar, Putchar, Exprs, no_exprs, more_exprs, Piece, Stmt, Do, Forget, Initialise, Block, If, While, DoWhile, For, Switch, Break, Continue, Return, Stmts, no_stmts, more_stmts, LocalObject, Func, Prog}
+use Rattle.im_typed.specs.Program.{Access, Scalar, Struct, Place, Static, Local, Target, Member, Expr, Constant, NullPointer, Read, Address, Convert, Unary, Binary, Move, MoveBy, Distance, Compare, Not, And, Or, Choose, Comma, Discard, Assign, Update, Increment, Part, Call, Serve, no_argument, an_argument, Exprs, no_exprs, more_exprs, Piece, Stmt, Do, Forget, Initialise, Block, If, While, DoWhile, For, Switch, Break, Continue, Return, Stmts, no_stmts, more_stmts, LocalObject, Func, Prog}
 use Rattle.im_typed.specs.Values.{cells_of, changed_kind}
 use Rattle.im_typed.specs.Meaning.{is_among, given_offsets}
 
@@ -137,6 +138,11 @@ TakesArgument None cells = ⊥
 TakesArgument (Some (Scalar kind)) cells = cells ≡ cells_of (Scalar kind)
 TakesArgument (Some (Struct count parts)) cells = ⊥
 
+-- an argument of a service is of its parameter's kind
+abbrev pub IsGiven : Option Kind → Option Access → Type 0
+IsGiven None shape = ⊥
+IsGiven (Some kind) shape = shape ≡ Some (Scalar kind)
+
 abbrev pub parameters : Option Func → List LocalObject
 parameters None = []
 parameters (Some f) = take f.params f.objects
@@ -200,8 +206,7 @@ module _ (g : Prog) where
   shape_of (Increment a change old) = Some (Scalar (changed_kind change))
   shape_of (Part from x e) = Some x
   shape_of (Call n es) = result_shape (slice_get g.funcs n)
-  shape_of Getchar = Some (Scalar I32)
-  shape_of (Putchar e) = Some (Scalar I32)
+  shape_of (Serve service a) = Some (Scalar (row service).result)
 
   module _ (f : Func) where
     abbrev mutual
@@ -240,8 +245,8 @@ module _ (g : Prog) where
       IsTyped (Increment a change old) = IsTypedPlace a × IsStep change
       IsTyped (Part from x e) = IsAccess x × IsTyped e × IsPart from x (shape_of e)
       IsTyped (Call n es) = (n < length g.funcs) × AreArguments (parameters (slice_get g.funcs n)) es
-      IsTyped Getchar = Unit {0}
-      IsTyped (Putchar e) = IsTyped e × (shape_of e ≡ Some (Scalar I32))
+      IsTyped (Serve service no_argument) = IsNullary (row service).parameter
+      IsTyped (Serve service (an_argument e)) = IsTyped e × IsGiven (row service).parameter (shape_of e)
 
       -- an argument for each parameter
       pub AreArguments : List LocalObject → Exprs → Type 0

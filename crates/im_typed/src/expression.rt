@@ -1,4 +1,5 @@
 use im_num::Kind;
+use im_serve::Service;
 use im_store::{BinaryOp, Comparison, UnaryOp};
 
 /// What is read or written at a place: one cell, or each cell of a struct.
@@ -114,8 +115,8 @@ pub enum Expr {
     },
     /// A call of a function of the program, by its number.
     Call(u32, Vec<Expr>),
-    Getchar,
-    Putchar(Box<Expr>),
+    /// A call of a service, with its argument where it has a parameter.
+    Serve(Service, Option<Box<Expr>>),
 }
 
 impl Drop for Expr {
@@ -169,8 +170,7 @@ impl Drop for Expr {
                 whole: _,
             } => {}
             Expr::Call(_, _) => {}
-            Expr::Getchar => {}
-            Expr::Putchar(_) => {}
+            Expr::Serve(_, _) => {}
         }
     }
 }

@@ -7,40 +7,10 @@ use crate::tree::Type;
 use im_num::NoMemory;
 use std::alloc::Global;
 
-/// How many derivations may stand within one another: what walks over a type takes stack for each.
-const MOST_DERIVATIONS: u32 = 250;
-
-/// Whether more than so many derivations stand within one another in a type.
-#[cycle(deep)]
-fn is_deeper(most: u32, ty: &Type) -> bool {
-    match ty {
-        Type::Void | Type::Integer(_) | Type::Struct(_) => false,
-        Type::Pointer(_, part) | Type::Array(part, _) | Type::Unsized(part) => {
-            most == 0 || is_deeper(most - 1, part)
-        }
-        Type::Function(returned, parameters) => {
-            most == 0 || is_deeper(most - 1, returned) || some_is_deeper(most - 1, parameters)
-        }
-    }
-}
-
-#[cycle(deep)]
-fn some_is_deeper(most: u32, types: &[Type]) -> bool {
-    for ty in types {
-        if is_deeper(most, ty) {
-            return true;
-        }
-    }
-    false
-}
-
-/// The type in a box. What would stand too deep is answered by want of memory.
+/// The type in a box.
 fn part(alloc: Global, ty: Type) -> Result<Box<Type>, NoMemory>
     ensures { IfOk result (λ b. b.value ≡ ty) }
 {
-    if is_deeper(MOST_DERIVATIONS, &ty) {
-        return Err(NoMemory::OutOfMemory);
-    }
     Ok(Box::new(alloc, ty)?)
 }
 
@@ -70,8 +40,5 @@ pub fn function_of(alloc: Global, returned: Type, parameters: Vec<Type>) -> Resu
     ensures { IfOk result
         (λ ty. type_of ty ≡ t.function (type_of returned) (types_in parameters.items)) }
 {
-    if some_is_deeper(MOST_DERIVATIONS, &parameters) {
-        return Err(NoMemory::OutOfMemory);
-    }
     Ok(Type::Function(part(alloc, returned)?, parameters))
 }

@@ -1,3 +1,4 @@
+use Rattle.std.specs.Prelude.{None}
 use Rattle.std.proofs.Common.{refl, [], ◌∷◌, ℤ, subst, rules}
 use Rattle.std.specs.Int.{w128}
 use Rattle.std.proofs.lemmas.Int.{to_z-of_z}
@@ -57,8 +58,5 @@ returns-in-Cut c = rw c.in-Cut.is (λ s h. (s, m.Cuts ∷ [], refl, h))
 pub returns-in-Call : goal.returns-in-Call
 returns-in-Call c = rw c.in-Call.is (λ s h. c.call.ensures s h)
 
-pub returns-in-GetChar : goal.returns-in-GetChar
-returns-in-GetChar c = rw c.in-GetChar.is (λ s h. c.get_char.ensures (setting_of c.args.code.setting) s h)
-
-pub returns-in-PutChar : goal.returns-in-PutChar
-returns-in-PutChar c = rw c.in-PutChar.is (λ s h. c.put_char.ensures (setting_of c.args.code.setting) s h refl)
+pub returns-in-Serve : goal.returns-in-Serve
+returns-in-Serve c = rw c.in-Serve.is (λ s h. c.serve.ensures (setting_of c.args.code.setting) s h refl)

@@ -13,11 +13,12 @@ returns c =
     let b = c.args.body.now in
     let k = context_of b.place in
     let s = rw c.deref.ensures.value at (c.in_ok-q.ensures k) in
-    let g = c.in_ok-mention.ensures.grown in
-    record {
-      meets = s.0;
-      type = s.1;
-      entries = g.0;
-      behind = entries_declared b _ g.0 g.1;
-      scopes = rw c.deref-2.ensures.value at (c.in_ok-mention.ensures.scopes k);
-    }
+    let g = c.in_ok-mention.ensures.grown in (
+      record {
+        meets = s.0;
+        entries = g.0;
+        behind = entries_declared b _ g.0 g.1;
+        scopes = rw c.deref-2.ensures.value at (c.in_ok-mention.ensures.scopes k);
+      },
+      s.1,
+    )

@@ -1,10 +1,10 @@
 use Rattle.std.proofs.Common.{ap, refl, subst, sym, List, Ok}
 use Rattle.std.proofs.lemmas.Result.{err_from_is_err_and}
-use Rattle.im_typed.specs.Meaning.{Next as NextFlow}
+use Rattle.std.specs.Prelude.{pos}
+use Rattle.im_typed.specs.Meaning.{served, Next as NextFlow}
 use Rattle.im_typed.specs.Runs.{give, goes_on, with_fuel}
 use Rattle.im_eval_store.specs.declared.value.Value.TheVariants.{Number}
 use Rattle.im_eval_machine.specs.Shown.{number_shown}
-use Rattle.im_eval_machine.specs.Steps.{reads_byte}
 use Rattle.im_eval_machine.specs.declared.found.Found.TheVariants.{One}
 use Rattle.im_eval_tasks.specs.Found.{flow}
 use Rattle.im_eval_tasks.specs.Stack.{Flowed, Valued, pending}
@@ -21,13 +21,13 @@ pub returns-in-Arguments-clause-goes : goal.returns-in-Arguments-clause-goes
 returns-in-Arguments-clause-goes c =
     rw c.in-Arguments.is (λ n s i le. c.next_argument.ensures.goes n (pending c.args.run.now.tasks.items) s i le)
 
-pub returns-in_ok-number-in-Getchar-clause-goes : goal.returns-in_ok-number-in-Getchar-clause-goes
-returns-in_ok-number-in-Getchar-clause-goes c =
+pub returns-in_ok-number-in-Serve-clause-goes : goal.returns-in_ok-number-in-Serve-clause-goes
+returns-in_ok-number-in-Serve-clause-goes c =
     let run = c.args.run.now in
     let ts = pending run.tasks.items in
-    let number = c.in_ok-number-in-Getchar.number in
-    rw c.in-Getchar.is (λ n s i le.
-    went c.args.code n run.here ts number_shown number (Just (Value (One (Number number)))) c.get_char.new.machine (with_fuel reads_byte s) (λ vs. follows c.args.code n run.here ts (Valued vs)) (c.in_ok-number-in-Getchar.ensures.ends s i) (λ t. refl))
+    let number = c.in_ok-number-in-Serve.number in
+    rw c.in-Serve.is (λ n s i le.
+    went c.args.code n run.here ts number_shown number (Just (Value (One (Number number)))) c.serve.new.machine (with_fuel (served c.args.code.capacity c.in-Serve.service (pos 0)) s) (λ vs. follows c.args.code n run.here ts (Valued vs)) (c.in_ok-number-in-Serve.ensures.ends s i) (λ t. refl))
 
 pub returns-in-Forget-clause-goes : goal.returns-in-Forget-clause-goes
 returns-in-Forget-clause-goes c =

@@ -4,7 +4,7 @@ use Rattle.im_eval_machine.proofs.Streaming.{byte-put}
 use Rattle.im_eval_machine.proofs.streams.put_byte.Goals as goal
 
 pub returns : goal.returns
-returns c =
+returns c = λ z same.
     let less = c.if-len-capacity.false in
     let len = c.len.ensures in
-    byte-put c.args.machine.now c.args.capacity c.args.byte c.push.new.self c.byte_number.result (lt-ltb _ _ (omega arith)) c.in_ok-push.ensures.items c.byte_number.ensures
+    byte-put z c.args.machine.now c.args.capacity c.args.byte c.push.new.self c.byte_number.result same (lt-ltb _ _ (omega arith)) c.in_ok-push.ensures.items c.byte_number.ensures

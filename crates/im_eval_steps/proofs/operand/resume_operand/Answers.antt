@@ -18,10 +18,10 @@ returns-in_err-onward-in-Left-clause-goes c =
     let code = c.args.code in
     rw (p.1, p.2, c.in-Left.is) (λ n here ts s i. c.in_err-onward-in-Left.ensures (types_of code) (setting_of code) n here ts s)
 
-pub returns-in_ok-written-in-Putchar-clause-goes : goal.returns-in_ok-written-in-Putchar-clause-goes
-returns-in_ok-written-in-Putchar-clause-goes c =
-    rw c.in-Putchar.is (λ n here ts s i.
-    put-goes c.args.code n here ts s (shown c.args.value) c.in_ok-number-in-Putchar.number.value c.in_ok-number-in-Putchar.ensures c.in_ok-written-in-Putchar.written c.put_char.new.machine (c.in_ok-written-in-Putchar.ensures.ends s i))
+pub returns-in_ok-given-in-Serve-clause-goes : goal.returns-in_ok-given-in-Serve-clause-goes
+returns-in_ok-given-in-Serve-clause-goes c =
+    rw c.in-Serve.is (λ n here ts s i.
+    put-goes c.in-Serve.service c.args.code n here ts s (shown c.args.value) c.in_ok-number-in-Serve.number.value c.in_ok-number-in-Serve.ensures c.in_ok-given-in-Serve.given c.serve.new.machine (c.in_ok-given-in-Serve.ensures.ends s i))
 
 pub returns-in_ok-after-in-Change-clause-goes : goal.returns-in_ok-after-in-Change-clause-goes
 returns-in_ok-after-in-Change-clause-goes c =

@@ -1,4 +1,4 @@
-use Rattle.std.proofs.Common.{◌≡◌, List, ◌++◌, length, refl, ap, subst, arith}
+use Rattle.std.proofs.Common.{List, ◌++◌, length, refl, ap, subst, arith}
 use Rattle.std.specs.Prelude.{nat_eq}
 use Rattle.std.specs.HashMap as hash
 use Rattle.im_rv.specs.declared.code.Line.{Line}
