@@ -90,7 +90,8 @@ fn count_expression(expression: &Expr) -> u64
 {
     match expression {
         Expr::Number(_, _) | Expr::Null => 1,
-        Expr::Read(_, place) | Expr::Address(place) => count_place(place).saturating_add(1),
+        Expr::Read(_, place) => count_place(place).saturating_add(1),
+        Expr::Address(place) => count_place(place).saturating_add(1),
         Expr::Convert(_, operand)
         | Expr::Unary(_, _, operand)
         | Expr::Not(operand)
