@@ -12,12 +12,13 @@ use Rattle.im_ctree.specs.Tree as t
 use Rattle.im_ctree.specs.Shape.{declarator_of, core_of, specifiers_of}
 use Rattle.im_ctree_parts.specs.Lists.{list_from, stars_in, with_suffix, suffixes_from}
 use Rattle.im_ctree_parts.proofs.Shapes.{declarator_shape, specifiers_shape}
-use Rattle.im_check_outline.specs.im_rules.Outline.{typedef_in}
+use Rattle.im_check_outline.specs.im_rules.Outline.{name_of, typedef_in}
 use Rattle.im_check_outline.specs.im_rules.Rules.{is_typedef}
 use Rattle.im_check_outline.specs.im_rules.TypeTests.{same_name}
 use Rattle.im_check_name_map.specs.Numbers.{number_of}
 use Rattle.im_check_counts.specs.declared.derivations.Deep.{Deep}
-use Rattle.im_check_counts.specs.Derivations.{Known, Derived, derivations_by, own_derivations, inner_derivations, derivation_limit, derived_in, derived_by, with_derived, known_behind, known_of, count_or_none, derived_as, none_known, derived_names, AreShallow, IsWalked, IsDeepIn}
+use Rattle.im_check_counts.specs.Crowded.{first_token}
+use Rattle.im_check_counts.specs.Derivations.{Known, Derived, derivations_by, own_derivations, inner_derivations, derivation_limit, derived_from, derived_in, derived_by, with_derived, known_behind, known_of, count_or_none, derived_as, none_known, derived_names, AreShallow, IsWalked, IsDeepIn}
 
 -- a declarator, by its parts
 
@@ -34,6 +35,18 @@ stars_counted xs = length-map {A = Star} xs (λ star. star.consts)
 
 pub own_shape : (d : dc.Declarator) → own_derivations (declarator_of d) ≡ inner_derivations (core_of (dc.out-Declarator d).core) + (length (stars_in (dc.out-Declarator d).stars.items) + derivations_by (suffixes_from (dc.out-Declarator d).suffixes.items))
 own_shape d = ap own_derivations (declarator_shape d)
+
+-- a typedef name, by its parts
+
+abbrev pub of_parts : ℕ → ℕ → List ℕ → Derived
+of_parts count token name = record { count = count; token = token; name = name }
+
+pub from_parts : (base : ℕ) (d : t.Declarator) (count token : ℕ) (name : List ℕ)
+    → count ≡ base + own_derivations d
+    → token ≡ first_token d
+    → name ≡ name_of d
+    → of_parts count token name ≡ derived_from base d
+from_parts base d count token name is_count is_token is_name = λ i. record { count = is_count i; token = is_token i; name = is_name i }
 
 -- a name that is remembered
 
