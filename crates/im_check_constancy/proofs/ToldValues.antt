@@ -20,6 +20,7 @@ both-told j k b (inl h) = ap (λ z. z && k) h.0 ∙ sym h.1
 both-told j k b (inr h) = ap (λ z. z && k) h.0 ∙ sym h.1
 
 pub told-both : (f : ℤ → ℤ → Option ℤ) (j k : Constancy) (d e x y : Expr) (b : Bool) (v : Option ℤ) → d ≡ x → e ≡ y → Told j x → Told k y → ((j.is_constant ≡ true) × (b ≡ k.is_constant)) ⊎ ((j.is_constant ≡ false) × (b ≡ false)) → v ≡ on_both f (number_in j.value) (number_in k.value) → ((is_constant d && is_constant e) ≡ b) × (on_both f (evaluated d) (evaluated e) ≡ v)
-told-both f j k d e x y b v is also g h both eq =
-    (ap (λ z. z && is_constant e) (ap is_constant is ∙ g.0) ∙ ap (λ z. j.is_constant && z) (ap is_constant also ∙ h.0) ∙ both-told j.is_constant k.is_constant b both,
-     ap (λ z. on_both f z (evaluated e)) (ap evaluated is ∙ g.1) ∙ ap (λ z. on_both f (number_in j.value) z) (ap evaluated also ∙ h.1) ∙ sym eq)
+told-both f j k d e x y b v is also g h both eq = (
+  ap (λ z. z && is_constant e) (ap is_constant is ∙ g.0) ∙ ap (λ z. j.is_constant && z) (ap is_constant also ∙ h.0) ∙ both-told j.is_constant k.is_constant b both,
+  ap (λ z. on_both f z (evaluated e)) (ap evaluated is ∙ g.1) ∙ ap (λ z. on_both f (number_in j.value) z) (ap evaluated also ∙ h.1) ∙ sym eq,
+)
