@@ -1,8 +1,6 @@
 -- The cuts that a run passes, and the built-in functions that it calls, are among those that its lines weigh.
 use Rattle.std.proofs.Common.{◌≡◌, ℕ, zero, suc, ◌+◌, ◌≤◌, Bool, true, false, List, [], ◌∷◌, ◌++◌, Some, None, refl, ap, subst, arith}
-use Rattle.std.specs.Prelude.{if◌then◌else◌, nat_le, nat_lt, nat_abs, length, slice_get}
-use Rattle.im_num.specs.declared.kind.Kind.TheVariants.{U8}
-use Rattle.im_num.specs.Kinds.{wrap}
+use Rattle.std.specs.Prelude.{if◌then◌else◌, nat_le, slice_get}
 use Rattle.im_store.specs.Checks.{Checked, Fine, Bad}
 use Rattle.im_store.specs.Outcomes.{Outcome}
 use Rattle.im_block.specs.declared.code.Line.{Line}
