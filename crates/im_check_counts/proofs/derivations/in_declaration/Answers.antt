@@ -12,7 +12,7 @@ returns-then-not-is_typedef c =
 pub returns : goal.returns
 returns c =
     let d = c.args.d.now in
-    a_typedef (known_of c.args.known.now) d.specifiers (init_declarators_of d.declarators.items) c.base_of-base.result _ _
+    a_typedef (known_of c.args.known.now) d.specifiers (init_declarators_of d.declarators.items) c.base_of-base.result (known_of c.in_declarators.new.known) c.in_declarators.result
     (sym (rw c.deref.ensures.value at c.is_typedef.ensures) ∙ c.if-not-is_typedef.false)
     (rw c.deref-2.ensures.value at c.base_of-base.ensures)
     (rw c.deref-3.ensures.value at c.in_declarators.ensures)
