@@ -67,14 +67,19 @@ module _ (n : ℕ) (instead : ℕ → ℕ) (keeps : (v : ℕ) → (instead v ≡
   exit_from (Return None) w = w
   exit_from (Return (Some r)) w = one_from r w
 
+  all_from : (line : Line) (rest rest' : List Line) → All (LineFrom n) (line ∷ rest) → (All (LineFrom n) rest → All (LineFrom n) rest') → All (LineFrom n) (line_using instead line ∷ rest')
+  all_from line rest rest' h all =
+      All-cons (LineFrom n) (line_using instead line) rest' (line_from line (All-head (LineFrom n) line rest h)) (all (All-tail (LineFrom n) line rest h))
+
   -- the first line of those that receive arguments, or all of them
   receives_line : (line : Line) (rest rest' : List Line) → Receives n (line ∷ rest) → (Receives n rest → Receives n rest') → (All (LineFrom n) rest → All (LineFrom n) rest') → Receives n (line_using instead line ∷ rest')
   receives_line (Write place kind from access) rest rest' h on all = on h
   receives_line (Cut cause) rest rest' h on all = on h
   receives_line (Copy to from) rest rest' h on all = (h.0, on h.1)
   receives_line (Convert to kind from) rest rest' h on all = (h.0, on h.1)
-  receives_line line rest rest' h on all =
-      All-cons (LineFrom n) (line_using instead line) rest' (line_from line (All-head (LineFrom n) line rest h)) (all (All-tail (LineFrom n) line rest h))
+  receives_line (Serve to service None) rest rest' h on all = all_from (Serve to service None) rest rest' h all
+  receives_line (Serve to service (Some from)) rest rest' h on all = all_from (Serve to service (Some from)) rest rest' h all
+  receives_line line rest rest' h on all = all_from line rest rest' h all
 
 lines_from : (n : ℕ) (live : ℕ → ℕ → Bool) (a b : Exit) (before old new : List Line) → ForwardsLines n live a b before old new → All (LineFrom n) old → All (LineFrom n) new
 lines_from n live a b before old new (Ends gone e) h = All-nil (LineFrom n)
@@ -129,6 +134,8 @@ module _ (statics : ℕ) (f g : Function) (first : g.first_object ≡ f.first_ob
   line_able instead (Address to place) h = place_exists instead place h
   line_able instead (Read to place kind access) h = place_exists instead place h
   line_able instead (Write place kind from access) h = place_exists instead place h
+  line_able instead (Serve to service None) h = h
+  line_able instead (Serve to service (Some from)) h = h
   line_able instead line h = h
 
   exists_still : (place : Place) → PlaceExists statics f place → PlaceExists statics g place
