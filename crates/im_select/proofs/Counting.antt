@@ -125,7 +125,7 @@ few at m (Serve to service None) h = omega arith
 few at m (Serve to service (Some from)) h = omega arith
 
 -- whatever it takes and passes on
-way_few : (at : Name → ℕ) (m : ℕ) (passed before : Option ℕ) (line : Line) → (StartsWithCut (line ∷ []) → ⊥) → length (way_code at m passed before line) + 1 ≤ with_cut line
+pub way_few : (at : Name → ℕ) (m : ℕ) (passed before : Option ℕ) (line : Line) → (StartsWithCut (line ∷ []) → ⊥) → length (way_code at m passed before line) + 1 ≤ with_cut line
 way_few at m None before (Put to z) h = few at m (Put to z) h
 way_few at m (Some n) before (Put to z) h = omega arith
 way_few at m passed None (Compute to op kind left right) h = few at m (Compute to op kind left right) h

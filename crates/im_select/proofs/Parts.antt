@@ -119,10 +119,10 @@ taken_in w given live starts distance next bare k frame tail exit taken is g sma
 abbrev pub IsBehind : (ℕ → ℕ → Bool) → (ℕ → ℕ → Bool) → ℕ → List Line → Exit → Type 0
 IsBehind live needed j lines exit = (i r : ℕ) → needed (i + j) r ≡ lives_before live (drop (suc i) lines) exit r
 
-behind_tail : (live needed : ℕ → ℕ → Bool) (j : ℕ) (line : Line) (lines : List Line) (exit : Exit) → IsBehind live needed j (line ∷ lines) exit → IsBehind live needed (suc j) lines exit
+pub behind_tail : (live needed : ℕ → ℕ → Bool) (j : ℕ) (line : Line) (lines : List Line) (exit : Exit) → IsBehind live needed j (line ∷ lines) exit → IsBehind live needed (suc j) lines exit
 behind_tail live needed j line lines exit h = λ i r. (let q : i + suc j ≡ suc i + j = omega arith in ap (λ z. needed z r) q ∙ h (suc i) r)
 
-word_cases : {X : Type 0} (o : Option ℕ) → (o ≡ None → X) → ((n : ℕ) → o ≡ Some n → X) → X
+pub word_cases : {X : Type 0} (o : Option ℕ) → (o ≡ None → X) → ((n : ℕ) → o ≡ Some n → X) → X
 word_cases None f g = f refl
 word_cases (Some n) f g = g n refl
 
