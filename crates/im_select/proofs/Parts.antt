@@ -174,7 +174,7 @@ module _ (w : Lines) (given : Given) (live : ℕ → ℕ → Bool) (starts : ℕ
       let p = All-head (IsPlacedLine statics f) user (lines ++ tail) (All-tail (IsPlacedLine statics f) (Put r z) (user ∷ (lines ++ tail)) h.placed) in
       let spent : (r ≡ to) ⊎ (lives_before live (lines ++ tail) exit r ≡ false) = elim d.spent [ inl x ↦ inl x | inr x ↦ inr (let q : 1 + j ≡ suc j = omega arith in sym (behind 1 r) ∙ ap (λ x. needed x r) q ∙ x) ] in
       let here : FoldedIn w blocks k (Put r z) (Compute to op kind left r) (lines ++ tail) exit (suc k) =
-          ComputesBy r z to op kind left (lines ++ tail) exit i.by i.imm p.0 p.1 d.apart p.3 i.is (spent_in blocks live (lines ++ tail) exit to r is put.1 spent) (subst (λ x. Plain w k x) i.line b.0) in
+      ComputesBy r z to op kind left (lines ++ tail) exit i.by i.imm p.0 p.1 d.apart p.3 i.is (spent_in blocks live (lines ++ tail) exit to r is put.1 spent) (subst (λ x. Plain w k x) i.line b.0) in
       inr (inr (
         suc k,
         subst (λ x. FoldedIn w blocks k (Put r z) (Compute to op kind left x) (lines ++ tail) exit (suc k)) (sym d.right_is) here,

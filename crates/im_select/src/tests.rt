@@ -293,15 +293,51 @@ fn constants_are_immediates(rt: HostRuntime) -> Result<(), Fail> {
     let sums = are_words(alloc, 0, 5, 13, BinaryOp::Add, int, 10, &[0x00550693])?
         && are_words(alloc, 0, 2047, 13, BinaryOp::Add, int, 10, &[0x7ff50693])?
         && are_words(alloc, 0, -5, 13, BinaryOp::Add, int, 10, &[0xffb50693])?
-        && are_words(alloc, 0, 4294967291, 13, BinaryOp::Add, unsigned, 10, &[0xffb50693])?
+        && are_words(
+            alloc,
+            0,
+            4294967291,
+            13,
+            BinaryOp::Add,
+            unsigned,
+            10,
+            &[0xffb50693],
+        )?
         && are_words(alloc, 0, 5, 13, BinaryOp::Subtract, int, 10, &[0xffb50693])?
-        && are_words(alloc, 0, 2048, 13, BinaryOp::Subtract, int, 10, &[0x80050693])?;
+        && are_words(
+            alloc,
+            0,
+            2048,
+            13,
+            BinaryOp::Subtract,
+            int,
+            10,
+            &[0x80050693],
+        )?;
     let bits = are_words(alloc, 0, 255, 13, BinaryOp::BitAnd, int, 10, &[0x0ff57693])?
         && are_words(alloc, 0, 1, 13, BinaryOp::BitOr, int, 10, &[0x00156693])?
         && are_words(alloc, 0, -1, 13, BinaryOp::BitXor, int, 10, &[0xfff54693])?;
     let shifts = are_words(alloc, 0, 3, 13, BinaryOp::ShiftLeft, int, 10, &[0x00351693])?
-        && are_words(alloc, 0, 31, 13, BinaryOp::ShiftRight, int, 10, &[0x41f55693])?
-        && are_words(alloc, 0, 31, 13, BinaryOp::ShiftRight, unsigned, 10, &[0x01f55693])?;
+        && are_words(
+            alloc,
+            0,
+            31,
+            13,
+            BinaryOp::ShiftRight,
+            int,
+            10,
+            &[0x41f55693],
+        )?
+        && are_words(
+            alloc,
+            0,
+            31,
+            13,
+            BinaryOp::ShiftRight,
+            unsigned,
+            10,
+            &[0x01f55693],
+        )?;
     let over = are_words(alloc, 0x1000, 5, 12, BinaryOp::Add, int, 10, &[0x00550613])?;
     assert_eq!(rt; (sums, bits, shifts, over), (true, true, true, true));
     Ok(())
