@@ -32,7 +32,7 @@ use Rattle.im_select.specs.declared.distance.Distance.{Distance as Reach}
 use Rattle.im_select.specs.declared.distance.Distance.TheVariants.{Near, Far}
 use Rattle.im_select.specs.Emitted.{constant_by, high_of, low_of, moved_code, copied_code, converted_code, unary_code, compared_code, scaled_code, place_code, displaced_code, place_number, based_code, address_code, word_taken, passed_by, line_code, lines_code, behind_each, adds_code, enter_code, onward_code, test_code, test_or, taken_test, own_lines, is_next, branch_code, exit_code, is_empty, ended_code, labelled, block_code, others_below, laid_order, Laying, next_label, found_code, laid_block, laid_code, blocks_code, prologue_code, function_code, entry_label}
 use Rattle.im_select.specs.Selects.{laying_of}
-use Rattle.im_select.proofs.Folding.{lines_alone, lines_paired, folds}
+use Rattle.im_select.proofs.Pairing.{lines_alone, lines_paired, folds}
 use Rattle.im_select.proofs.Parts.{word_cases}
 use Rattle.im_select.proofs.Taking.{IsTaken, Nothing, Comparing, takes}
 use Rattle.im_rv.specs.declared.instr.Op.{Op}
@@ -144,7 +144,7 @@ lines_some at m needed j [] = omega arith
 lines_some at m needed j (Put r z ∷ Compute to op kind left right ∷ lines) =
     let user : Line = Compute to op kind left right in
     word_cases (word_taken (needed (suc j)) r (word z) user)
-    (λ e. alone_some at m needed j (Put r z) (user ∷ lines) e (lines_some at m needed (suc j) (user ∷ lines)))
+    (λ e. alone_some at m needed j (Put r z) (user ∷ lines) e (lines_some at m needed (suc j) (Compute to op kind left right ∷ lines)))
     (λ n e. folded_some at m needed j r z to op kind left right lines n e (lines_some at m needed (suc (suc j)) lines))
 lines_some at m needed j (line ∷ lines) = alone_some at m needed j line lines refl (lines_some at m needed (suc j) lines)
 

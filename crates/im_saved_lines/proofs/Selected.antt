@@ -38,7 +38,7 @@ use Rattle.im_select.specs.declared.branching.Test.TheVariants.{Nonzero, Compare
 use Rattle.im_select.specs.declared.distance.Distance.{Distance as Reach}
 use Rattle.im_select.specs.declared.distance.Distance.TheVariants.{Near, Far}
 use Rattle.im_select.specs.Emitted.{entry_label, cut_code, result_code, call_code, word_taken, passed_by, line_code, lines_code, behind_each, adds_code, leave_code, onward_code, both_ways, test_op, test_code, test_or, taken_test, own_lines, is_next, branch_code, exit_code, is_empty, taking_code}
-use Rattle.im_select.proofs.Folding.{lines_alone, lines_paired, Folds, folds, IsImmediate, immediate_of}
+use Rattle.im_select.proofs.Pairing.{lines_alone, lines_paired, Folds, folds, IsImmediate, immediate_of}
 use Rattle.im_select.proofs.Parts.{IsBehind, behind_tail, word_cases}
 use Rattle.im_select.proofs.Taking.{IsTaken, Nothing, Comparing, takes as parted, test_branches}
 use Rattle.im_saved_lines.specs.Scan.{Goes, IsSoundLine, way, is_base, is_returned, After, onward, scan, AreSound}
@@ -501,7 +501,7 @@ module _ (functions : List Function) (statics first count frame : ℕ) (f : Func
       let h' = All-tail (IsPlacedLine statics f) (Put x z) (user ∷ (lines ++ tail)) h in
       let t' = All-tail (LineThere functions) (Put x z) (user ∷ (lines ++ tail)) t in
       word_cases (word_taken (needed (suc j)) x (word z) user)
-      (λ e. alone_before needed j (Put x z) (user ∷ lines) tail exit behind r e (λ v. lines_before needed (suc j) (user ∷ lines) tail exit behind r is' k h' t' u v)
+      (λ e. alone_before needed j (Put x z) (user ∷ lines) tail exit behind r e (λ v. lines_before needed (suc j) (Compute to op kind left right ∷ lines) tail exit behind r is' k h' t' u v)
       (All-head (IsPlacedLine statics f) (Put x z) (user ∷ (lines ++ tail)) h) (All-head (LineThere functions) (Put x z) (user ∷ (lines ++ tail)) t) u w)
       (λ n e. folded_before needed j x z to op kind left right lines tail exit behind r n e is
       (λ v. lines_before needed (suc (suc j)) lines tail exit behind r (behind_tail by needed (suc j) user (lines ++ tail) exit is') k (All-tail (IsPlacedLine statics f) user (lines ++ tail) h') (All-tail (LineThere functions) user (lines ++ tail) t') u v) u w)
@@ -561,7 +561,7 @@ module _ (functions : List Function) (statics first count frame : ℕ) (f : Func
       word_cases (word_taken (needed (suc j)) x (word z) user)
       (λ a. alone_sound needed j (Put x z) (user ∷ lines) behind a
       (plain_sound at (line_code places (m j) (Put x z)) (scan at (lines_code places m needed None (suc j) (user ∷ lines)) behind) (work_plain places (m j) (Put x z) tt))
-      (lines_sound needed (suc j) (user ∷ lines) tail exit behind is' k h' e t' s.1 v.1))
+      (lines_sound needed (suc j) (Compute to op kind left right ∷ lines) tail exit behind is' k h' e t' s.1 v.1))
       (λ n a. folded_sound needed j x z to op kind left right lines behind n a
       (lines_sound needed (suc (suc j)) lines tail exit behind (behind_tail by needed (suc j) user (lines ++ tail) exit is') k (All-tail (IsPlacedLine statics f) user (lines ++ tail) h') e (All-tail (LineThere functions) user (lines ++ tail) t') s.1.1 v.1.1))
   lines_sound needed j (line ∷ lines) tail exit behind is k h e t s v =

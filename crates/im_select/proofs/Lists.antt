@@ -19,7 +19,7 @@ lines_grown at m needed before passed old now new xs k d l a e b =
     ∙ ap (λ z. now ++ lines_code at m needed before k z) (sym (drop_more xs k d l)) ∙ a
 
 pub lines_done : (at : Name → ℕ) (m : ℕ → ℕ) (needed : ℕ → ℕ → Bool) (before : Option ℕ) (old now : List CodeLine) (xs : List Line) (k : ℕ) → length xs ≤ k → now ++ lines_code at m needed before k (drop k xs) ≡ old → now ≡ old
-lines_done at m needed before old now xs k l a = sym (append-nil now) ∙ ap (λ z. now ++ lines_code at m needed before k z) (sym (drop_all xs k l)) ∙ a
+lines_done at m needed before old now xs k l a = sym (append-nil now) ∙ ap (λ z. now ++ lines_code at m needed before k z) (sym (drop_all k xs l)) ∙ a
 
 -- a block is put, and the others are left
 pub laid_grown : (laying : Laying) (old now new : List CodeLine) (order : List ℕ) (k d : ℕ) → k < length order → now ++ laid_code laying (drop k order) ≡ old → new ≡ now ++ laid_block laying (get_or order k d) (drop (k + 1) order) → new ++ laid_code laying (drop (k + 1) order) ≡ old

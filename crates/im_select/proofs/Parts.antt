@@ -32,7 +32,7 @@ use Rattle.im_select.proofs.Ordering.{same_number}
 use Rattle.im_select.proofs.Standing.{At, after, after_append, at_left, at_right}
 use Rattle.im_select.proofs.Taking.{IsTaken, Nothing, Comparing}
 use Rattle.im_select.proofs.Selecting.{Words, adds_in, selected_in}
-use Rattle.im_select.proofs.Folding.{folds, immediate_of, lines_alone, lines_paired, spent_in}
+use Rattle.im_select.proofs.Pairing.{folds, immediate_of, lines_alone, lines_paired, spent_in}
 
 leaves_in : (w : Lines) (k frame : ℕ) → frame < 2 ^ 32 → At w k (leave_code frame) → LeavesIn w k frame
 leaves_in w k frame small a =
@@ -188,7 +188,7 @@ module _ (w : Lines) (given : Given) (live : ℕ → ℕ → Bool) (starts : ℕ
       let behind' = behind_tail live needed j (Put r z) (user ∷ (lines ++ tail)) exit behind in
       let h' = tail_of given (Put r z) (user ∷ (lines ++ tail)) exit h in
       word_cases (word_taken (needed (suc j)) r (word z) user)
-      (λ e. alone j k (Put r z) (user ∷ lines) e h (λ follows b. stands_in (suc j) (after k (line_code own (m j) (Put r z))) (user ∷ lines) behind' h' follows b) follows a)
+      (λ e. alone j k (Put r z) (user ∷ lines) e h (λ follows b. stands_in (suc j) (after k (line_code own (m j) (Put r z))) (Compute to op kind left right ∷ lines) behind' h' follows b) follows a)
       (λ n e. folded j k r z to op kind left right lines n e behind h (λ follows b. stands_in (suc (suc j)) (suc k) lines (behind_tail live needed (suc j) user (lines ++ tail) exit behind') (tail_of given user (lines ++ tail) exit h') follows b) follows a)
   stands_in j k (line ∷ lines) behind h follows a =
       alone j k line lines refl h (λ follows b. stands_in (suc j) (after k (line_code own (m j) line)) lines (behind_tail live needed j line (lines ++ tail) exit behind) (tail_of given line (lines ++ tail) exit h) follows b) follows a

@@ -11,8 +11,8 @@ use Rattle.im_select.proofs.Lists.{lines_grown, lines_done}
 use Rattle.im_select.proofs.Machine.{all_to, line_machine}
 use Rattle.im_select.proofs.lines.push_lines.Goals as goal
 
-pub loop-number-passed_by-requires-clause-machine : goal.loop-number-passed_by-requires-clause-machine
-loop-number-passed_by-requires-clause-machine c =
+pub passed_by-passed-requires-clause-machine : goal.passed_by-passed-requires-clause-machine
+passed_by-passed-requires-clause-machine c =
     let names = c.args.names.now in
     all_to (IsPlacedLine (length names.statics.now) names.function.now) IsMachineLine c.args.placed.now (line_machine (length names.statics.now) names.function.now) c.requires.placed
 
