@@ -1,5 +1,5 @@
 -- Constants that the next line takes as its immediate, and lines that are put by themselves.
-use Rattle.std.proofs.Common.{◌≡◌, ◌≢◌, ◌<◌, ◌⊎◌, inl, inr, ℕ, ℤ, suc, ◌+◌, ◌-◌, ◌%◌, ◌^◌, Bool, true, false, List, ◌∷◌, ◌++◌, Option, Some, None, refl, sym, ap, ◌∙◌, subst, eq-eqb, arith}
+use Rattle.std.proofs.Common.{◌≡◌, ◌≢◌, ◌<◌, ◌⊎◌, inl, inr, ℕ, ℤ, suc, ◌^◌, Bool, true, false, List, ◌∷◌, ◌++◌, Option, Some, None, refl, sym, ap, ◌∙◌, eq-eqb, arith}
 use Rattle.std.specs.Prelude.{◌==◌, ◌&&◌, ◌||◌, not, is_some, nat_lt, if◌then◌else◌}
 use Rattle.im_num.specs.declared.kind.Kind.{Kind}
 use Rattle.im_num.specs.Kinds.{word}
@@ -7,7 +7,7 @@ use Rattle.im_rv.specs.declared.instr.Op.{Op}
 use Rattle.im_rv.specs.declared.instr.Op.TheVariants.{Addi, Xori, Ori, Andi, Slli, Srli, Srai}
 use Rattle.im_rv.specs.Decode.{Line as Instruction}
 use Rattle.im_rv.specs.Steps.{sum_of}
-use Rattle.im_rv.specs.Lines.{CodeLine, plain_line}
+use Rattle.im_rv.specs.Lines.{plain_line}
 use Rattle.im_rv_reach.specs.Instructions.{with_immediate}
 use Rattle.im_select_operators.specs.Tables.{by_sign}
 use Rattle.im_select_operators.proofs.Words.{word_small}
