@@ -43,7 +43,7 @@ use Rattle.im_select.proofs.Parts.{IsBehind, behind_tail, word_cases}
 use Rattle.im_select.proofs.Taking.{IsTaken, Nothing, Comparing, takes as parted, test_branches}
 use Rattle.im_saved_lines.specs.Scan.{Goes, IsSoundLine, way, is_base, is_returned, After, onward, scan, AreSound}
 use Rattle.im_saved_lines.specs.Laws.{lives_inside, IsLow, HasEntries, HasBlocks, HoldsCalls, SavesFrom}
-use Rattle.im_saved_lines.proofs.Scanning.{both, both_are, either, or_left, or_right, same_of, same_is, IsUnsaved, unsaved_not, unsaved_true, or_unsaved, scan_append, sound_append, Lives, First, Second, Later, line_lives, plain_sound, Wants, plain_wants}
+use Rattle.im_saved_lines.proofs.Scanning.{both, both_are, either, or_left, or_right, same_of, same_is, other_is, IsUnsaved, unsaved_not, unsaved_true, or_unsaved, scan_append, sound_append, Lives, First, Second, Later, line_lives, plain_sound, Wants, plain_wants}
 use Rattle.im_saved_lines.proofs.Plain.{adds_plain, adds_wants}
 use Rattle.im_saved_lines.proofs.Working.{immediate_way, work_plain, work_wants}
 
