@@ -19,7 +19,7 @@ returns-in-Call c = λ types g n here ts s.
     let items = c.in-Call.arguments.items in
     let whole : small_expr (expr_of types c.args.expr.now) ≡ p.Call f (exprs_in types items) =
     ap (λ x. small_expr (expr_of types x)) c.in-Call.is ∙ call_is types f c.in-Call.arguments in
-    ap (λ es. then_valued types g n here ts (values_of around (exprs_in types es) >>= (λ vs. around.calls f (map {A = Value} shown c.new.result.items ++ vs))) s) c.deref-in-Call.ensures.value
+    ap (λ es. then_valued types g n here ts (values_of around (exprs_in types es) >>= (λ vs. around.calls f (map {A = Value} shown c.new.result.items ++ vs))) s) c.deref.ensures.value
     ∙ ap (λ (ready : List Value). then_valued types g n here ts (values_of around (exprs_in types items) >>= (λ vs. around.calls f (map {A = Value} shown ready ++ vs))) s) c.new.ensures.items
     ∙ sym (ap (λ x. then_valued types g n here ts (value_of around x) s) whole)
 
