@@ -18,9 +18,6 @@ use im_eval_store::{Memory, ObjectName, Value};
 use im_num::{CellValue, NoMemory, Var};
 use std::alloc::Global;
 
-/// What a cell without a value shows: no value of any kind.
-const NO_VALUE: i128 = 1 << 32;
-
 /// A value as an end shows it.
 fn cell_shown(value: Value) -> Result<CellValue, Stop>
     ensures { IfOk result (λ cell. cell ≡ outcomes.cell_shown (shown value)) }
@@ -28,7 +25,7 @@ fn cell_shown(value: Value) -> Result<CellValue, Stop>
     match value {
         Value::Number(number) => Ok(CellValue::Number(number.value as i128)),
         Value::Null => Ok(CellValue::Null),
-        Value::Unset => Ok(CellValue::Number(NO_VALUE)),
+        Value::Unset => Ok(CellValue::NoValue),
         Value::Pointer(place) => {
             if place.object.activation != 0 {
                 return Ok(CellValue::Local);
