@@ -46,7 +46,7 @@ module _ (types : Table) (g : Setting) (n : ℕ) where
   operates h (Choose a b) v = chooses types (in_activation h) a b v
   operates h (Serve service) v = serves types (in_activation h) service v
   operates h (Change at by before) v =
-      checked (number_of v) >>= (λ z. in_store (changed by (shown before) z) >>= (λ w.
+      checked (number_of v) >>= (λ z. changed (in_activation h).operates by (shown before) z >>= (λ w.
       write_at (Scalar (changed_kind by)) (shown at) (w ∷ []) >>= (λ _. scalar w)))
   operates h (Argument call) v = takes_argument types (in_activation h) call v
   operates h Target v = scalar v
