@@ -23,7 +23,7 @@ fn cell_shown(value: Value) -> Result<CellValue, Stop>
     ensures { IfOk result (λ cell. cell ≡ outcomes.cell_shown (shown value)) }
 {
     match value {
-        Value::Number(number) => Ok(CellValue::Number(number.value as i128)),
+        Value::Number(number) => Ok(CellValue::Number(number.value)),
         Value::Null => Ok(CellValue::Null),
         Value::Unset => Ok(CellValue::NoValue),
         Value::Pointer(place) => {
@@ -120,7 +120,7 @@ fn end_of(
     unit: &Unit,
     state: State,
     reason: Reason,
-    status: i64,
+    status: i128,
 ) -> Result<Option<Outcome>, NoMemory>
     ensures { IfOk result (λ found. IfSome found (λ outcome. (s : meaning.State)
         → IsState state.entry s → told outcome

@@ -5,7 +5,8 @@ ghost use Rattle.im_check_locals.specs.im_rules.Statements as st;
 ghost use Rattle.im_check_locals.specs.im_rules.Terms as r;
 ghost use Rattle.im_check_stop.specs.Answers.{IsNoRule, IsRefusal};
 ghost use Rattle.im_check_locals.specs.im_ctree_parts.Lists.{expression_in};
-ghost use Rattle.im_check_constancy.specs.Told.{number_in, constant_in};
+ghost use Rattle.im_store.specs.Applied.{number_in};
+ghost use Rattle.im_check_constancy.specs.Told.{constant_in};
 ghost use Rattle.im_check_operands.specs.Shape.{term_in};
 ghost use Rattle.im_check_statement_forms.specs.Asked.{IsAskedFault};
 ghost use Rattle.im_check_statement_forms.specs.Labelling.{labels_of, Tells, CaseAdded, DefaultAdded, IsSelected, CaseDone};
@@ -26,7 +27,7 @@ use std::collections::BTreeSet;
 /// The labels of a switch so far, the constants of its cases also as a set.
 #[derive(Drop)]
 pub struct Labels {
-    pub seen: BTreeSet<i64>,
+    pub seen: BTreeSet<i128>,
     pub cases: Vec<Case>,
     pub otherwise: Option<u32>,
 }
@@ -57,7 +58,7 @@ fn add_case(labels: &mut Labels, value: Number, at: u32) -> Result<bool, Stop>
     Ok(true)
 }
 
-fn plain(value: Number) -> i64
+fn plain(value: Number) -> i128
     ensures { result ≡ value.value }
 {
     value.value
@@ -67,7 +68,7 @@ fn case_of(value: Number, at: u32) -> Case
     ensures { result ≡ st.case_at value.value at }
 {
     Case {
-        value: value.value as i128,
+        value: value.value,
         at,
     }
 }

@@ -23,7 +23,7 @@ fn cell_shown(value: Value) -> Result<CellValue, NoMemory>
     ensures { IfOk result (λ cell. cell ≡ outcomes.cell_shown (shown value)) }
 {
     match value {
-        Value::Number(number) => Ok(CellValue::Number(number.value as i128)),
+        Value::Number(number) => Ok(CellValue::Number(number.value)),
         Value::Null => Ok(CellValue::Null),
         Value::Unset => Ok(CellValue::NoValue),
         Value::Pointer(place) => {

@@ -46,12 +46,9 @@ pub enum Last {
 pub fn small(value: i128) -> Number
     ensures { result.value ≡ small_numbers.small value }
 {
-    if value > i64::MIN as i128 && value <= i64::MAX as i128 {
-        Number {
-            value: value as i64,
-        }
-    } else {
-        Number::ZERO
+    match Number::of(value) {
+        Some(number) => number,
+        None => Number::ZERO,
     }
 }
 
