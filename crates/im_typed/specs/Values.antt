@@ -8,7 +8,7 @@ use Rattle.im_store.specs.declared.operators.BinaryOp.{BinaryOp}
 use Rattle.im_store.specs.declared.undefined.Undefined.TheVariants.{NoSuchCell, MissingResult}
 use Rattle.im_store.specs.Checks.{Checked, Fine, Bad}
 use Rattle.im_store.specs.Numbers.{apply}
-use Rattle.im_store.specs.Objects.{Value, Number, Null, Pointer, Unset, Store}
+use Rattle.im_store.specs.Objects.{Value, Number, Null, Pointer, Unset}
 use Rattle.im_store.specs.Access.{taken, read_cells, write_cells, at_place}
 use Rattle.im_store.specs.Pointers.{moved_by, bytes_moved}
 use Rattle.im_typed.specs.declared.expression.Change.{Change}
