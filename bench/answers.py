@@ -22,6 +22,8 @@ HANDED_ON = {
     ("im_check_externals/src/fault.rt", "large"),
     ("im_cmd/src/building.rt", "store_image"),
     ("im_cmd_words/src/words.rt", "refusal"),
+    ("im_driver/src/checking.rt", "deep"),
+    ("im_driver/src/checking.rt", "shallow"),
     ("im_driver/src/checking.rt", "typed_program"),
     ("im_driver/src/named.rt", "large_frame"),
     ("im_front/src/reading.rt", "read_source"),

@@ -162,7 +162,7 @@ def chain(text):
     return "int x; int main(void) { " + text + " return 0; }"
 
 
-# What stands so often at most, by docs/errors.md, and is refused a few links on.
+# What stands so often at most, by docs/errors.md, and is refused a little further on.
 CHAINS = {
     "else if with braces": (190, lambda n: chain("if (x == 1) { x = 1; }" + " else if (x == 2 && x) { x = 2; }" * n)),
     "else if without braces": (95, lambda n: chain("if (x == 1) x = 1;" + " else if (x == 2 && x) x = 2;" * n)),
@@ -174,7 +174,7 @@ CHAINS = {
 }
 
 
-@test("docs/errors.md: as many links of a chain as it says are built, and some more are told by the nesting")
+@test("docs/errors.md: as much of each chain as it says is built, and more of it is refused")
 def chains(room):
     for what, (most, source_of) in CHAINS.items():
         same(f"{most} of {what}", refused(room, source_of(most)), "built")

@@ -22,8 +22,8 @@ IsPlain line = Unit {0}
 pub record Carries (Fact : Line → Type 0) (Q : List Line → Type 0) : Type 0 where
   pub plain : (line : Line) (rest : List Line) → IsPlain line → Q rest → Q (line ∷ rest)
   pub call : (to i first count : ℕ) (home : Home) (a : ℕ) (rest : List Line) → Fact (Call to i first count) → Q rest → Q (Call 10 i 10 count ∷ Cut ReturnCut ∷ give home a rest)
-  pub get : {service : Service} (home : Home) (a : ℕ) (rest : List Line) → Q rest → Q (Serve 10 service None ∷ Cut ReturnCut ∷ give home a rest)
-  pub put : {service : Service} (home : Home) (a : ℕ) (rest : List Line) → Q rest → Q (Serve 10 service (Some 10) ∷ Cut ReturnCut ∷ give home a rest)
+  pub get : (service : Service) (home : Home) (a : ℕ) (rest : List Line) → Q rest → Q (Serve 10 service None ∷ Cut ReturnCut ∷ give home a rest)
+  pub put : (service : Service) (home : Home) (a : ℕ) (rest : List Line) → Q rest → Q (Serve 10 service (Some 10) ∷ Cut ReturnCut ∷ give home a rest)
 
 module _ (Fact : Line → Type 0) (Q : List Line → Type 0) (c : Carries Fact Q) where
   pub carried_load : (home : Home) (s a : ℕ) (rest : List Line) → Q rest → Q (load home s a rest)
@@ -83,6 +83,6 @@ module _ (Fact : Line → Type 0) (Q : List Line → Type 0) (c : Carries Fact Q
   carried h n (Cut cause) rest other fact q = absurd (other tt)
   carried h n (Call to i first count) rest other fact q =
       carried_bring h 10 first count (n + 3) (Call 10 i 10 count ∷ Cut ReturnCut ∷ give (h to) (n + 2) rest) (c.call to i first count (h to) (n + 2) rest fact q)
-  carried h n (Serve to service None) rest other fact q = c.get (h to) (n + 2) rest q
+  carried h n (Serve to service None) rest other fact q = c.get service (h to) (n + 2) rest q
   carried h n (Serve to service (Some from)) rest other fact q =
-      carried_into (h from) 10 n (Serve 10 service (Some 10) ∷ Cut ReturnCut ∷ give (h to) (n + 2) rest) (c.put (h to) (n + 2) rest q)
+      carried_into (h from) 10 n (Serve 10 service (Some 10) ∷ Cut ReturnCut ∷ give (h to) (n + 2) rest) (c.put service (h to) (n + 2) rest q)

@@ -36,8 +36,8 @@ apart_carried : Carries Any CutsApart
 apart_carried = record {
   plain = apart_plain;
   call = λ to i first count home a rest fact c. apart_give home a rest c;
-  get = λ home a rest c. apart_give home a rest c;
-  put = λ home a rest c. apart_give home a rest c;
+  get = λ service home a rest c. apart_give home a rest c;
+  put = λ service home a rest c. apart_give home a rest c;
 }
 
 -- what a line becomes begins with a cut only where it is one

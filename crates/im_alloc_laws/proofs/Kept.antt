@@ -100,8 +100,8 @@ calls_carried : Carries Any CutAfterCalls
 calls_carried = record {
   plain = calls_plain;
   call = λ to i first count home a rest fact c. (tt, calls_give home a rest c);
-  get = λ home a rest c. (tt, calls_give home a rest c);
-  put = λ home a rest c. (tt, calls_give home a rest c);
+  get = λ service home a rest c. (tt, calls_give home a rest c);
+  put = λ service home a rest c. (tt, calls_give home a rest c);
 }
 
 calls_line : (h : ℕ → Home) (n : ℕ) (line : Line) (rest : List Line) → CutAfterCalls rest → CutAfterCalls (put_line h n line rest)

@@ -225,13 +225,13 @@ module _ (wanted : ℕ → ℕ → Bool) (h : ℕ → Home) (exit : Exit) where
         ])
       ]
 
-  get_lives : {service : Service} (to n : ℕ) (rest : List Line) (after : ℕ → Bool) (r : ℕ) → Survives h to after → (W rest r → Held h after r) → W (put_line h n (Serve to service None) rest) r → ⊥
-  get_lives to n rest after r survives k w =
+  get_lives : (service : Service) (to n : ℕ) (rest : List Line) (after : ℕ → Bool) (r : ℕ) → Survives h to after → (W rest r → Held h after r) → W (put_line h n (Serve to service None) rest) r → ⊥
+  get_lives service to n rest after r survives k w =
       let c = both (not (r == 10)) (L (give (h to) (n + 2) rest) r) w in
       not_true (r == 10) c.0 (same_is r 10 (behind_call to (n + 2) rest after r survives k c.1))
 
-  put_lives : {service : Service} (to from n : ℕ) (rest : List Line) (after : ℕ → Bool) (r : ℕ) → Survives h to after → (W rest r → Held h after r) → W (put_line h n (Serve to service (Some from)) rest) r → Before (λ v. v == from) to after r
-  put_lives to from n rest after r survives k w = elim (brought (h from) 10 n (Serve 10 service (Some 10) ∷ Cut ReturnCut ∷ give (h to) (n + 2) rest) r w) [
+  put_lives : (service : Service) (to from n : ℕ) (rest : List Line) (after : ℕ → Bool) (r : ℕ) → Survives h to after → (W rest r → Held h after r) → W (put_line h n (Serve to service (Some from)) rest) r → Before (λ v. v == from) to after r
+  put_lives service to from n rest after r survives k w = elim (brought (h from) 10 n (Serve 10 service (Some 10) ∷ Cut ReturnCut ∷ give (h to) (n + 2) rest) r w) [
     | inl e ↦ used_one (λ v. v == from) to after r from (same_is from from refl) e
     | inr d ↦ absurd (elim (left_of (r == 10) (r == 10) (L (give (h to) (n + 2) rest) r) d.1) [
       | inl e ↦ d.0 (same_of r 10 e)
@@ -265,8 +265,8 @@ module _ (wanted : ℕ → ℕ → Bool) (h : ℕ → Home) (exit : Exit) where
   line_lives n (Spill slot from access) rest after r valid k w = absurd valid
   line_lives n (Cut cause) rest after r valid k w = k w
   line_lives n (Call to i first count) rest after r valid k w = call_lives to i first count n rest after r valid.0 k w
-  line_lives n (Serve to service None) rest after r valid k w = absurd (get_lives to n rest after r valid k w)
-  line_lives n (Serve to service (Some from)) rest after r valid k w = put_lives to from n rest after r valid k w
+  line_lives n (Serve to service None) rest after r valid k w = absurd (get_lives service to n rest after r valid k w)
+  line_lives n (Serve to service (Some from)) rest after r valid k w = put_lives service to from n rest after r valid k w
 
   pub lines_live : (live : ℕ → ℕ → Bool) (old : Exit) (n : ℕ) (lines tail : List Line) → ((r : ℕ) → W tail r → Held h (exit_lives live old) r) → Valid h live lines old → (r : ℕ) → W (put_lines h n lines tail) r → Held h (lives live lines old) r
   lines_live live old n [] tail k valid r w = k r w

@@ -139,8 +139,8 @@ module _ (fs gs : List Function) (all : PlacedFunctions fs gs) where
   there_carried = record {
     plain = λ line rest plain q. All-cons There line rest (plain_there line plain) q;
     call = λ to i first count home a rest fact q. All-cons There (Call 10 i 10 count) (Cut ReturnCut ∷ give home a rest) fact (give_there home a rest q);
-    get = λ home a rest q. All-cons There (Serve 10 service None) (Cut ReturnCut ∷ give home a rest) tt (give_there home a rest q);
-    put = λ home a rest q. All-cons There (Serve 10 service (Some 10)) (Cut ReturnCut ∷ give home a rest) tt (give_there home a rest q);
+    get = λ service home a rest q. All-cons There (Serve 10 service None) (Cut ReturnCut ∷ give home a rest) tt (give_there home a rest q);
+    put = λ service home a rest q. All-cons There (Serve 10 service (Some 10)) (Cut ReturnCut ∷ give home a rest) tt (give_there home a rest q);
   }
 
   there_line : (h : ℕ → Home) (n : ℕ) (line : Line) (rest : List Line) → There line → All There rest → All There (put_line h n line rest)

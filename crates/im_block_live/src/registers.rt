@@ -76,7 +76,10 @@ fn uses_of(base: u64, line: Line) -> u32
         | Line::Unary { from, .. }
         | Line::Not { from, .. }
         | Line::Spill { from, .. }
-        | Line::Serve { from: Some(from), .. } => single(base, from),
+        | Line::Serve {
+            from: Some(from),
+            ..
+        } => single(base, from),
         Line::Compute { left, right, .. }
         | Line::Compare { left, right, .. }
         | Line::Distance { left, right, .. } => two(base, left, right),

@@ -1,5 +1,5 @@
 -- The checker's answers.
-use Rattle.std.proofs.Common.{◌≡◌, ◌≤◌, ◌<◌, ℕ, zero, suc, List, [], ◌∷◌, length, get_or, refl, sym, ap, ◌∙◌, subst, arith}
+use Rattle.std.proofs.Common.{◌≡◌, ◌≤◌, ◌<◌, ℕ, zero, suc, List, [], ◌∷◌, length, get_or, sym, ap, ◌∙◌, subst, arith}
 use Rattle.std.specs.List.{All}
 use Rattle.std.specs.Prelude.{Contains}
 use Rattle.im_ctree.specs.Tree as t
@@ -10,11 +10,9 @@ use Rattle.im_typed.specs.declared.program.Prog.{Prog}
 use Rattle.im_typed.specs.declared.program.Static as rst
 use Rattle.im_typed.specs.Limits.{static_bytes}
 use Rattle.im_typed.specs.ProgramOf.{program_of}
-use Rattle.im_rules.specs.FileScope.{file_start}
 use Rattle.im_rules.specs.TypedUnit.{TypedUnit}
-use Rattle.im_rules.specs.UnitBreaks.{some_externals}
 use Rattle.im_rules_limits.specs.Limits as l
-use Rattle.im_lower_plain.specs.MakeUnit.{HasTypes, KnowsTypes}
+use Rattle.im_lower_plain.specs.MakeUnit.{HasTypes}
 use Rattle.im_typed.specs.StructsLaws.{StatementsLaw, ObjectsLaw}
 use Rattle.im_rules_sound_unit.specs.Laws.{UnitsLaw}
 use Rattle.im_rules_sound_unit.specs.im_rules_sound_places.Units.{IsWrittenUnit}

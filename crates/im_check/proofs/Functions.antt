@@ -1,18 +1,17 @@
 -- Functions by the table of a unit's end: they are those of the definitions, which are typed by earlier tables.
-use Rattle.std.proofs.Common.{◌≡◌, ℕ, Bool, true, false, ◌&&◌, List, [], ◌∷◌, ◌++◌, length, map, refl, sym, ap, ◌∙◌, subst}
+use Rattle.std.proofs.Common.{◌≡◌, ℕ, Bool, true, false, ◌&&◌, List, [], ◌∷◌, length, map, refl, sym, ap, ◌∙◌, subst}
 use Rattle.std.specs.Prelude.{Option}
 use Rattle.im_num.specs.declared.kind.Kind.{Kind}
-use Rattle.im_check_externals.specs.im_ctype.Layout.{Layout, layout}
+use Rattle.im_check_externals.specs.im_ctype.Layout.{Layout}
 use Rattle.im_check_externals.specs.im_ctype.Table.{Table, structs_of}
 use Rattle.im_check_externals.specs.im_ctype.Types.{Structs, is_complete}
 use Rattle.im_typed.specs.declared.program.Func as rf
 use Rattle.im_typed.specs.declared.statement.Stmt as rs
 use Rattle.im_typed.specs.Program.{LocalObject, Func, Prog, Stmt}
 use Rattle.im_typed.specs.ProgramOf.{object_of, stmt_of, func_of}
-use Rattle.im_typed.specs.Typing.{Each, IsTypedFunc, IsTypedStmt}
+use Rattle.im_typed.specs.Typing.{Each, IsTypedFunc}
 use Rattle.im_check_externals.specs.im_types.Shape.{type_of}
 use Rattle.im_typed.specs.StructsLaws.{IsLonger, StatementsLaw, ObjectsLaw}
-use Rattle.im_rules.specs.Statements as s
 use Rattle.im_check_sites.specs.declared.body.Local.{Local}
 use Rattle.im_check_sites.specs.Sites.{object_in, objects_in}
 use Rattle.im_check_defined.specs.declared.function.Defined.{Defined}

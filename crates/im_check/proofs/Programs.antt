@@ -1,5 +1,5 @@
 -- The program of a unit that is typed and within the limits.
-use Rattle.std.proofs.Common.{◌≡◌, ◌≤◌, ◌<◌, ℕ, List, [], ◌∷◌, ◌++◌, map, refl, sym, ap, ◌∙◌, subst, arith}
+use Rattle.std.proofs.Common.{◌≡◌, ◌≤◌, ℕ, List, [], ◌∷◌, ◌++◌, map, refl, ap, ◌∙◌, arith}
 use Rattle.std.specs.Prelude.{Contains}
 use Rattle.im_ctree.specs.Tree as t
 use Rattle.im_check_externals.specs.im_store.Statics.{StaticObject}
@@ -9,7 +9,7 @@ use Rattle.im_typed.specs.Limits.{static_bytes}
 use Rattle.im_typed.specs.Program.{Func, Prog}
 use Rattle.im_typed.specs.ProgramOf.{static_of, func_of, program_of}
 use Rattle.im_check_externals.specs.im_ctype.Table.{Table}
-use Rattle.im_rules.specs.FileScope.{FilePlace, file_start}
+use Rattle.im_rules.specs.FileScope.{file_start}
 use Rattle.im_rules.specs.TypedUnit.{program, static_named, string_statics, TypedUnit, of_unit}
 use Rattle.im_rules.specs.UnitBreaks.{some_externals}
 use Rattle.im_rules.proofs.UnitOnce.{unit_once}

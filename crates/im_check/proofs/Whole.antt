@@ -1,5 +1,5 @@
 -- Whole units.
-use Rattle.std.proofs.Common.{◌≡◌, sym, ap, ◌∙◌, subst}
+use Rattle.std.proofs.Common.{◌≡◌, sym, subst}
 use Rattle.im_ctree.specs.Tree as t
 use Rattle.im_rules.specs.Demands.{Meets}
 use Rattle.im_rules.specs.FileScope.{FilePlace, file_start, main_asks}
@@ -16,7 +16,6 @@ use Rattle.im_check_externals.specs.declared.unit.UnitDefined.{UnitDefined}
 use Rattle.im_check_externals.specs.Externals.{ExternalsDone}
 use Rattle.im_check_externals.specs.Faults.{IsExternalsFault}
 use Rattle.im_check_externals.proofs.Large.{among_sized}
-use Rattle.im_check_program.specs.declared.programs.Parts.{Parts}
 use Rattle.im_check.specs.declared.fault.CheckFault.{CheckFault}
 use Rattle.im_check.specs.declared.fault.CheckFault.TheVariants.{Rule, Limit, Large, OutOfMemory}
 use Rattle.im_check.specs.Checked.{IsCheckFault}

@@ -1,5 +1,5 @@
 -- The derivations of typedef names, one name behind the other.
-use Rattle.std.proofs.Common.{◌≡◌, ℕ, suc, ◌+◌, ◌<◌, ◌≤◌, Bool, true, false, ◌⊎◌, inl, inr, zero, List, [], ◌∷◌, ◌++◌, length, Option, Some, None, if◌then◌else◌, refl, sym, ap, ◌∙◌, subst, arith, append_assoc}
+use Rattle.std.proofs.Common.{◌≡◌, ℕ, suc, ◌+◌, ◌<◌, ◌≤◌, Bool, true, false, ◌⊎◌, inl, inr, zero, List, [], ◌∷◌, ◌++◌, length, Option, Some, None, Result, Ok, Err, IfOk, if◌then◌else◌, refl, sym, ap, ◌∙◌, subst, arith, append_assoc}
 use Rattle.std.specs.List.{Contains}
 use Rattle.std.proofs.lemmas.List.{length-map}
 use Rattle.std.proofs.lemmas.List.Elements.{Contains-append_cases}
@@ -12,12 +12,13 @@ use Rattle.im_ctree.specs.Tree as t
 use Rattle.im_ctree.specs.Shape.{declarator_of, core_of, specifiers_of}
 use Rattle.im_ctree_parts.specs.Lists.{list_from, stars_in, with_suffix, suffixes_from}
 use Rattle.im_ctree_parts.proofs.Shapes.{declarator_shape, specifiers_shape}
-use Rattle.im_check_outline.specs.im_rules.Outline.{typedef_in}
+use Rattle.im_check_outline.specs.im_rules.Outline.{name_of, typedef_in}
 use Rattle.im_check_outline.specs.im_rules.Rules.{is_typedef}
 use Rattle.im_check_outline.specs.im_rules.TypeTests.{same_name}
 use Rattle.im_check_name_map.specs.Numbers.{number_of}
 use Rattle.im_check_counts.specs.declared.derivations.Deep.{Deep}
-use Rattle.im_check_counts.specs.Derivations.{Known, Derived, derivations_by, own_derivations, inner_derivations, derivation_limit, derived_in, derived_by, with_derived, known_behind, known_of, count_or_none, derived_as, none_known, derived_names, AreShallow, IsWalked, IsDeepIn}
+use Rattle.im_check_counts.specs.Crowded.{first_token}
+use Rattle.im_check_counts.specs.Derivations.{Known, Derived, derivations_by, own_derivations, inner_derivations, derivation_limit, derived_from, derived_in, derived_by, derived_of, with_derived, known_behind, known_of, count_or_none, derived_as, none_known, derived_names, AreShallow, IsWalked, IsDeepIn}
 
 -- a declarator, by its parts
 
@@ -34,6 +35,18 @@ stars_counted xs = length-map {A = Star} xs (λ star. star.consts)
 
 pub own_shape : (d : dc.Declarator) → own_derivations (declarator_of d) ≡ inner_derivations (core_of (dc.out-Declarator d).core) + (length (stars_in (dc.out-Declarator d).stars.items) + derivations_by (suffixes_from (dc.out-Declarator d).suffixes.items))
 own_shape d = ap own_derivations (declarator_shape d)
+
+-- a typedef name, by its parts
+
+abbrev pub of_parts : ℕ → ℕ → List ℕ → Derived
+of_parts count token name = record { count = count; token = token; name = name }
+
+pub from_parts : (base : ℕ) (d : t.Declarator) (count token : ℕ) (name : List ℕ)
+    → count ≡ base + own_derivations d
+    → token ≡ first_token d
+    → name ≡ name_of d
+    → of_parts count token name ≡ derived_from base d
+from_parts base d count token name is_count is_token is_name = λ i. record { count = is_count i; token = is_token i; name = is_name i }
 
 -- a name that is remembered
 
@@ -114,12 +127,19 @@ walked_next known xs ys middle new found h g = walked_behind known xs ys new fou
 
 -- a whole unit
 
-pub deep_of : (u : t.Tree) (new : Known) (found : Option Deep) → IsWalked none_known (derived_names u) new found → IsDeepIn u found
-deep_of u new None h = h.0
-deep_of u new (Some deep) h = h
+deep_in : (u : t.Tree) (new : Known) (found : Option Deep) → IsWalked none_known (derived_names u) new found → IsDeepIn u found
+deep_in u new None h = h.0
+deep_in u new (Some deep) h = h
 
-pub nothing_known : (numbers : List (List ℕ × Option ℕ)) → numbers ≡ [] → known_of numbers ≡ none_known
-nothing_known numbers e = ap known_of e
+deep_if : {E : Type 0} (u : t.Tree) (new : Known) (r : Result (Option Deep) E) → IfOk r (IsWalked none_known (derived_names u) new) → IfOk r (IsDeepIn u)
+deep_if u new (Ok found) h = deep_in u new found h
+deep_if u new (Err fault) h = h
+
+pub deep_of : {E : Type 0} (u : t.Tree) (numbers : List (List ℕ × Option ℕ)) (new : Known) (r : Result (Option Deep) E) → numbers ≡ []
+    → IfOk r (IsWalked (known_of numbers) (derived_of (known_of numbers) u) new)
+    → IfOk r (IsDeepIn u)
+deep_of u numbers new r none h =
+    deep_if u new r (subst (λ (n : List (List ℕ × Option ℕ)). IfOk r (IsWalked (known_of n) (derived_of (known_of n) u) new)) none h)
 
 -- a declaration, by its specifiers
 
@@ -138,13 +158,13 @@ no_typedef known s ds none =
     declaration_names known s ds ∙ ap (λ (b : Bool). if b then derived_in (known (typedef_in xs)) ds else []) none in
     subst (λ ys. IsWalked known ys known None) (sym empty) (walked_none known)
 
-pub a_typedef : (known : Known) (s : Specifiers) (ds : t.InitDeclarators) (base : ℕ) (new : Known) (found : Option Deep)
+pub a_typedef : {E : Type 0} (known : Known) (s : Specifiers) (ds : t.InitDeclarators) (base : ℕ) (new : Known) (r : Result (Option Deep) E)
     → is_typedef (list_from (out-Specifiers s).items.items) ≡ true
     → base ≡ known (typedef_in (list_from (out-Specifiers s).items.items))
-    → IsWalked known (derived_in base ds) new found
-    → IsWalked known (derived_by known (t.external_declaration (t.declaration (specifiers_of s) ds))) new found
-a_typedef known s ds base new found is is_base h =
+    → IfOk r (IsWalked known (derived_in base ds) new)
+    → IfOk r (IsWalked known (derived_by known (t.external_declaration (t.declaration (specifiers_of s) ds))) new)
+a_typedef known s ds base new r is is_base h =
     let xs = list_from (out-Specifiers s).items.items in
     let names : derived_by known (t.external_declaration (t.declaration (specifiers_of s) ds)) ≡ derived_in base ds =
     declaration_names known s ds ∙ ap (λ (b : Bool). if b then derived_in (known (typedef_in xs)) ds else []) is ∙ ap (λ n. derived_in n ds) (sym is_base) in
-    subst (λ ys. IsWalked known ys new found) (sym names) h
+    subst (λ ys. IfOk r (IsWalked known ys new)) (sym names) h

@@ -1,9 +1,9 @@
 //! The derivations that typedef names stand for (C11 6.2.5p20).
 ghost use Rattle.std.specs.Prelude.{◌≡◌, ◌+◌, ◌∷◌, [], IfOk, OnOk, length, nat_lt};
-ghost use Rattle.im_ctree.specs.Shape.{declarator_of, core_of, init_declarators_of, external_of, tree_of};
+ghost use Rattle.im_ctree.specs.Shape.{declarator_of, core_of, init_declarators_of, external_of, externals_of, tree_of};
 ghost use Rattle.im_ctree_parts.specs.Lists.{list_from, stars_in, suffixes_from};
 ghost use Rattle.im_check_outline.specs.im_rules.Outline.{typedef_in as typedef_name_in};
-ghost use Rattle.im_check_counts.specs.Derivations.{derivations_by, own_derivations, inner_derivations, derived_from, derived_as, derived_in, derived_by, with_derived as with_name, known_of, IsWalked, IsDeepIn};
+ghost use Rattle.im_check_counts.specs.Derivations.{derivations_by, own_derivations, inner_derivations, derived_from, derived_as, derived_in, derived_by, derived_of, with_derived as with_name, known_of, IsWalked, IsDeepIn};
 
 use im_check_name_map::NameMap;
 use im_check_outline::{is_typedef, name_of, typedef_in};
@@ -163,16 +163,27 @@ fn in_external<'a>(
     }
 }
 
-/// The first typedef name that stands for more than 250 derivations, where there is one.
-pub fn first_deep(alloc: Global, tree: &Tree) -> Result<Option<Deep<'_>>, NoMemory>
-    ensures { IfOk result (IsDeepIn (tree_of tree.now)) }
+fn in_externals<'a>(
+    alloc: Global,
+    externals: &'a [External],
+    known: &mut NameMap,
+) -> Result<Option<Deep<'a>>, NoMemory>
+    ensures { IfOk result (IsWalked (known_of known.old)
+        (derived_of (known_of known.old) (externals_of externals.now)) (known_of known.new)) }
 {
-    let mut known = NameMap::new(alloc);
-    for external in &tree.externals {
-        match in_external(alloc, external, &mut known)? {
+    for external in externals {
+        match in_external(alloc, external, known)? {
             Some(x) => return Ok(Some(x)),
             None => {}
         }
     }
     Ok(None)
+}
+
+/// The first typedef name that stands for more than 250 derivations, where there is one.
+pub fn first_deep(alloc: Global, tree: &Tree) -> Result<Option<Deep<'_>>, NoMemory>
+    ensures { IfOk result (IsDeepIn (tree_of tree.now)) }
+{
+    let mut known = NameMap::new(alloc);
+    in_externals(alloc, &tree.externals, &mut known)
 }

@@ -89,7 +89,7 @@ elements_done p after a {e = e} at i is {js = js} old new types (Ok u) table mee
       elements_within (sym form') put.1,
     )
 elements_done p after a {e = e} at i is {js = js} old new types (Err (Rule rule token)) table meets form list broken =
-    in_elements (sym (ap (λ z. n.elements e z) (list ∙ sym (told_of (structs_of p.structs) a i (n.elements e js) form).0) ∙ form)) broken
+    in_elements (met p a i types table meets) (sym (ap (λ z. n.elements e z) (list ∙ sym (told_of (structs_of p.structs) a i (n.elements e js) form).0) ∙ form)) broken
 elements_done p after a {e = e} at i is {js = js} old new types (Err (Large bytes)) table meets form list large =
     (size_in_elements (sym (ap (λ z. n.elements e z) (list ∙ sym (told_of (structs_of p.structs) a i (n.elements e js) form).0) ∙ form)) large.0, large.1)
 elements_done p after a at i is old new types (Err Memory) table meets form list broken = tt
@@ -113,7 +113,7 @@ members_done p after a {m = m} at i is {js = js} old new types (Ok u) table meet
       members_within (sym form') put.1,
     )
 members_done p after a {m = m} at i is {js = js} old new types (Err (Rule rule token)) table meets form list broken =
-    in_members (sym (ap (λ z. n.members m z) (list ∙ sym (told_of (structs_of p.structs) a i (n.members m js) form).0) ∙ form)) broken
+    in_members (met p a i types table meets) (sym (ap (λ z. n.members m z) (list ∙ sym (told_of (structs_of p.structs) a i (n.members m js) form).0) ∙ form)) broken
 members_done p after a {m = m} at i is {js = js} old new types (Err (Large bytes)) table meets form list large =
     (size_in_members (sym (ap (λ z. n.members m z) (list ∙ sym (told_of (structs_of p.structs) a i (n.members m js) form).0) ∙ form)) large.0, large.1)
 members_done p after a at i is old new types (Err Memory) table meets form list broken = tt

@@ -28,7 +28,7 @@ fn name_of(quantity: Quantity) -> &'static str
     }
 }
 
-// The most that there may be: parameters of a function, bytes of the others.
+// The most that there may be: parameters of a function, derivations of a type, bytes of the others.
 fn most_of(quantity: Quantity) -> u64
     ensures { result ≡ limit_of quantity }
 {

@@ -1,6 +1,5 @@
 -- The words of a source's tokens are as every source has them.
-use Rattle.std.proofs.Common.{◌≡◌, ◌≢◌, ℕ, zero, suc, ◌+◌, ◌<◌, ◌≤◌, true, false, List, [], ◌∷◌, length, slice_index, slice_range, All, codes, refl, sym, ap, ◌∙◌, subst, arith}
-use Rattle.im_tok.specs.declared.token.Token.{Token}
+use Rattle.std.proofs.Common.{ℕ, ◌<◌, false, List, length, sym, subst, arith}
 use Rattle.im_tok.specs.declared.token.TokenKind.{TokenKind}
 use Rattle.im_tok.specs.declared.token.TokenKind.TheVariants as kind
 use Rattle.im_tok.specs.declared.keyword.Keyword.{Keyword}
@@ -11,7 +10,6 @@ use Rattle.im_tok.specs.Keywords.{keyword_text}
 use Rattle.im_tok.specs.Punctuators.{punctuator_text}
 use Rattle.im_lex.specs.declared.piece.PieceKind.TheVariants.{Token as TokenPiece}
 use Rattle.im_lex.specs.Pieces.{IsPiece}
-use Rattle.im_lex.specs.Tokens.{IsTokenOf}
 
 keyword_some : (k : Keyword) → 0 < length (keyword_text k)
 keyword_some keyword.Auto = omega arith

@@ -1,9 +1,7 @@
 -- Statics that have a cell and a name of a source are such that packing can name them.
-use Rattle.std.proofs.Common.{◌≡◌, ℕ, zero, suc, ◌<◌, ◌^◌, nat_lt, List, [], ◌∷◌, length, Some, subst}
+use Rattle.std.proofs.Common.{◌≡◌, ℕ, zero, suc, ◌^◌, List, [], ◌∷◌, length, Some, subst}
 use Rattle.std.specs.Prelude.{slice_get}
-use Rattle.std.specs.List.{list_all}
 use Rattle.std.proofs.lemmas.Bool.{ltb-true, and_parts}
-use Rattle.im_image.specs.Contents.{is_name_byte}
 use Rattle.im_store.specs.Statics.{StaticObject}
 use Rattle.im_typed.specs.Typing.{Each}
 use Rattle.im_rules_sound_spelt.specs.Namable as front

@@ -1,5 +1,5 @@
 -- What a source's tree is typed to, within the limits, is well typed.
-use Rattle.std.proofs.Common.{◌≡◌, ℕ, zero, suc, ◌-◌, ◌<◌, ◌≤◌, ◌^◌, List, [], ◌∷◌, length, take, drop, slice_index, slice_range, All, Ok, refl, sym, ap, subst, arith}
+use Rattle.std.proofs.Common.{ℕ, zero, suc, ◌-◌, ◌<◌, ◌^◌, List, [], ◌∷◌, length, take, drop, slice_index, slice_range, All, Ok, arith}
 use Rattle.std.proofs.lemmas.List.{length-take, length-drop}
 use Rattle.std.proofs.lemmas.List.Elements.{All-head, All-tail}
 use Rattle.im_tok.specs.declared.token.Token.{Token}
@@ -15,7 +15,7 @@ use Rattle.im_check.specs.im_rules.TypedUnit.{TypedUnit}
 use Rattle.im_check.specs.im_rules_limits.Limits.{IsWithinLimits}
 use Rattle.im_check.specs.im_rules_sound_places.Units.{IsWrittenUnit}
 use Rattle.im_check.specs.im_rules_sound_expressions.Written.{AreBytes}
-use Rattle.im_rules_sound_spelt.specs.Words.{IsLexical, AreLexical, AreNamedBy}
+use Rattle.im_rules_sound_spelt.specs.Words.{AreLexical, AreNamedBy}
 use Rattle.im_rules_sound_spelt.specs.Laws.{WordsLaw, SpeltLaw, SourcesLaw}
 use Rattle.im_rules_sound_spelt.specs.Namable.{is_name, IsNamable}
 use Rattle.im_rules_sound_spelt.specs.StaticsLaws.{WordNamesLaw, NamableLaw}

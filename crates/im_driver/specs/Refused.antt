@@ -28,7 +28,7 @@ pub record IsCrowdedFunction (source : List ℕ) (count : ℕ) (place : Place) (
   pub first : IsFirstCrowded (file_declarators (tree_of tree)) count token name
   pub is_place : place ≡ place_of_token source tokens token
 
--- in the source's tree a size is first over the limit, by so many bytes, in the declarator of this name, with its initialiser,
+-- in the source's tree the first size over the limit is so many bytes, in the declarator of this name, with its initialiser,
 -- or in the function with it; or else in specifiers, which have no name. This begins at the place
 pub record IsLargeObject (source : List ℕ) (count : ℕ) (place : Place) (name : List ℕ) : Type 0 where
   pub tokens : List Token
@@ -58,8 +58,8 @@ pub record IsDeepName (source : List ℕ) (count : ℕ) (place : Place) (name : 
   pub is_name : name ≡ derived.name
   pub is_place : place ≡ place_of_token source tokens derived.token
 
--- parameters are those of one function, and so is a frame; derivations are those of one typedef name; a size is that of a type in one declaration; the others are of no
--- one function or object
+-- parameters are those of one function, and so is a frame; derivations are those of one typedef name; a size is that of a type
+-- in one declaration; the others are of no one function or object
 abbrev pub IsCountedOf : List ℕ → Quantity → ℕ → Subject → Type 0
 IsCountedOf source Parameters count (Declared place name) = IsCrowdedFunction source count place name.items
 IsCountedOf source Parameters count Whole = ⊥

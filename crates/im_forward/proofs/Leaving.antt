@@ -1,8 +1,8 @@
 -- Copies that are left out: what lives is no more than before, and leaving out again leaves out.
-use Rattle.std.proofs.Common.{◌≡◌, ◌⊎◌, inl, inr, ℕ, zero, suc, ◌+◌, ◌<◌, ◌≤◌, Bool, true, false, List, [], ◌∷◌, ◌++◌, Some, refl, sym, ap, ◌∙◌, subst, arith, length, drop, get_or, eqb-true}
+use Rattle.std.proofs.Common.{◌≡◌, ◌⊎◌, inl, inr, ℕ, zero, suc, ◌+◌, ◌<◌, ◌≤◌, Bool, true, false, List, [], ◌∷◌, ◌++◌, Some, None, refl, sym, ap, ◌∙◌, subst, arith, length, drop, get_or, eqb-true}
 use Rattle.std.specs.Prelude.{◌==◌, ◌&&◌, ◌||◌, not, slice_get, slice_index}
 use Rattle.im_block.specs.declared.code.Line.{Line}
-use Rattle.im_block.specs.declared.code.Line.TheVariants.{Copy}
+use Rattle.im_block.specs.declared.code.Line.TheVariants.{Copy, Serve}
 use Rattle.im_block.specs.declared.code.Exit.{Exit}
 use Rattle.im_block.specs.declared.code.Exit.TheVariants.{Jump, Turn, Branch, Return}
 use Rattle.im_alloc_relation.specs.Live.{uses, sets, exit_lives, lives}
@@ -158,6 +158,8 @@ dead_at live base starts lines exit words i word line of points lt is d =
 
 idle_using : (live : ℕ → ℕ → Bool) (exit : Exit) (behind : List Line) (instead : ℕ → ℕ) (line : Line) → IsIdle live exit behind (line_using instead line) → IsIdle live exit behind line
 idle_using live exit behind instead (Copy to from) h = h
+idle_using live exit behind instead (Serve to service None) h = absurd h
+idle_using live exit behind instead (Serve to service (Some from)) h = absurd h
 idle_using live exit behind instead line h = absurd h
 
 pair_still : (live : ℕ → ℕ → Bool) (exit : Exit) (old new : List Line) (x y : Line) (t v : ℕ) → LeavesOutLines live exit old new → IsPair live exit old x y t v → IsPair live exit new x y t v

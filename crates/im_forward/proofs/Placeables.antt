@@ -73,6 +73,12 @@ module _ (n : ℕ) (instead : ℕ → ℕ) (keeps : (v : ℕ) → (instead v ≡
   receives_line (Cut cause) rest rest' h on all = on h
   receives_line (Copy to from) rest rest' h on all = (h.0, on h.1)
   receives_line (Convert to kind from) rest rest' h on all = (h.0, on h.1)
+  receives_line (Serve to service None) rest rest' h on all =
+      let line = Serve to service None in
+      All-cons (LineFrom n) line rest' (line_from line (All-head (LineFrom n) line rest h)) (all (All-tail (LineFrom n) line rest h))
+  receives_line (Serve to service (Some from)) rest rest' h on all =
+      let line = Serve to service (Some from) in
+      All-cons (LineFrom n) (line_using instead line) rest' (line_from line (All-head (LineFrom n) line rest h)) (all (All-tail (LineFrom n) line rest h))
   receives_line line rest rest' h on all =
       All-cons (LineFrom n) (line_using instead line) rest' (line_from line (All-head (LineFrom n) line rest h)) (all (All-tail (LineFrom n) line rest h))
 
@@ -129,6 +135,8 @@ module _ (statics : ℕ) (f g : Function) (first : g.first_object ≡ f.first_ob
   line_able instead (Address to place) h = place_exists instead place h
   line_able instead (Read to place kind access) h = place_exists instead place h
   line_able instead (Write place kind from access) h = place_exists instead place h
+  line_able instead (Serve to service None) h = h
+  line_able instead (Serve to service (Some from)) h = h
   line_able instead line h = h
 
   exists_still : (place : Place) → PlaceExists statics f place → PlaceExists statics g place

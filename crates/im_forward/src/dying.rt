@@ -36,7 +36,10 @@ fn reads(line: Line, register: u32) -> bool
         | Line::Unary { from, .. }
         | Line::Not { from, .. }
         | Line::Spill { from, .. }
-        | Line::Serve { from: Some(from), .. } => register == from,
+        | Line::Serve {
+            from: Some(from),
+            ..
+        } => register == from,
         Line::Compute { left, right, .. }
         | Line::Compare { left, right, .. }
         | Line::Distance { left, right, .. } => register == left || register == right,

@@ -31,7 +31,10 @@ fn line_with(copies: &[Known], mut line: Line) -> Line
         Line::Unary { from, .. } => *from = instead(copies, *from),
         Line::Not { from, .. } => *from = instead(copies, *from),
         Line::Spill { from, .. } => *from = instead(copies, *from),
-        Line::Serve { from: Some(from), .. } => *from = instead(copies, *from),
+        Line::Serve {
+            from: Some(from),
+            ..
+        } => *from = instead(copies, *from),
         Line::Compute { left, right, .. } => {
             *left = instead(copies, *left);
             *right = instead(copies, *right);

@@ -406,6 +406,7 @@ module _ (laws : Laws) (source : Source) (frames : List ℕ) (image : ImageValue
     ending = λ input fuel reason status output variables fits e.
         keeps_uninterrupted input fits fuel reason status output variables (shown_at input fits fuel (End reason status output variables) tt e);
     safe = λ input fits right. (right_always input fits right).safely;
+    shows = λ input fits right. (right_always input fits right).shows;
     within = λ input fits right. within input fits right;
     survives = λ input fits right. survives input fits (right_always input fits right);
     reaching = λ input fits right. reaches_uninterrupted input fits right;

@@ -8,7 +8,7 @@ use Rattle.im_store.specs.Outcomes.{End}
 use Rattle.im_device.specs.Load.{memory_of}
 use Rattle.im_replay.specs.Compiled.{RunsSafely}
 use Rattle.im_replay.specs.Replays.{Replays, Progresses}
-use Rattle.im_replay.specs.Output.{NeverShrinks}
+use Rattle.im_replay.specs.Output.{ShowsSafely, NeverShrinks}
 use Rattle.im_keeps.specs.Keeps.{Meaning, IsInput, IsRightFor, Begins, Shows, output_in, Keeps}
 use Rattle.im_keeps_run.specs.Laws.{run_of}
 use Rattle.im_keeps_passes.specs.Source.{Source, IsRightSource}
@@ -54,6 +54,7 @@ pub record PassesKeep (source : Source) (frames : List ℕ) (image : ImageValue)
       meaning_of source frames image input fuel ≡ End reason status output variables → KeepsUninterrupted image gap input fuel reason status output variables
   -- a program that is undefined at no fuel: no step faults, no exposed byte is written, the output is a prefix of the program's
   pub safe : (input : List ℕ) → IsInput input → IsRightFor (meaning_of source frames image) input → RunsSafely (run_of image input) (code_end image)
+  pub shows : (input : List ℕ) → IsInput input → IsRightFor (meaning_of source frames image) input → ShowsSafely (run_of image input)
   pub within : (input : List ℕ) → IsInput input → IsRightFor (meaning_of source frames image) input → (j : ℕ) → Begins (output_of image.form (run_of image input j).mem) (output_in (meaning_of source frames image input (j + 1)))
   pub survives : (input : List ℕ) → IsInput input → IsRightFor (meaning_of source frames image) input → Survives image gap input
   pub reaching : (input : List ℕ) → IsInput input → IsRightFor (meaning_of source frames image) input → ReachesUninterrupted (meaning_of source frames image) image gap input

@@ -1,7 +1,7 @@
 -- What is built writes no other memory.
-use Rattle.std.proofs.Common.{◌≡◌, ℕ, false, ◌+◌, List, None, refl, subst, arith}
-use Rattle.im_ckpt.specs.Runs.{writes}
+use Rattle.std.proofs.Common.{ℕ, ◌+◌, List, refl, subst, arith}
 use Rattle.im_replay.specs.Compiled.{RunsSafely}
+use Rattle.im_replay.specs.Output.{ShowsSafely}
 use Rattle.im_store.specs.Outcomes.{Outcome, IsDefined}
 use Rattle.im_typed.specs.declared.program.Prog.{Prog}
 use Rattle.im_typed.specs.ProgramOf.{program_of}
@@ -32,9 +32,10 @@ use Rattle.im_compile.specs.declared.options.Options.{Options}
 use Rattle.im_compile.specs.declared.built.Built.{Built}
 use Rattle.im_compile.specs.Passed.{IsSource, IsPassed, IsReady, ReadyLaw}
 use Rattle.im_compile.specs.Built.{IsBuilt, bytes_of}
-use Rattle.im_keeps_writes.specs.Writes.{may_change, Writes}
+use Rattle.im_keeps_writes.specs.Writes.{Writes}
 use Rattle.im_keeps_writes.specs.Laws.{BuiltWritesLaw}
-use Rattle.im_keeps_writes.proofs.Within.{none_at}
+use Rattle.im_keeps_writes.proofs.Fine.{IsFine}
+use Rattle.im_keeps_writes.proofs.Within.{fine_at}
 use Rattle.im_keeps_writes.proofs.Moments.{all}
 
 pub record Laws : Type 0 where
@@ -104,20 +105,20 @@ module _ (laws : Laws) (prog : Prog) (options : Options) (built : Built) (s : Is
         let w = (laws.added.kept passed.placed b.code (laws.middle.recut passed.placed b.code passed.tags options.max_gap passed.recut).same).runs g n o z.0 z.1 in
         record { outcome = o; defined = right; run = w.0; runs = w.1 }
 
-    module _ (right : IsRightFor (meaning_of (program_of prog) (bytes_of b.layouts) built.image) input) (safe : RunsSafely (run_of built.image input) (code_end built.image)) where
+    module _ (right : IsRightFor (meaning_of (program_of prog) (bytes_of b.layouts) built.image) input) (safe : RunsSafely (run_of built.image input) (code_end built.image)) (shows : ShowsSafely (run_of built.image input)) where
       in_image : IsInImage built.image input b.code g linking
       in_image = laws.in_image b.code b.addresses b.layouts b.parts b.linked options.stack options.out_cap built.image input image_of fits
 
-      none : (t a : ℕ) → may_change built.image a ≡ false → writes (run_of built.image input) t a ≡ None
-      none t a out =
+      fine : (t : ℕ) → IsFine built.image (run_of built.image input t)
+      fine t =
           let r = reaches (t + 1) (right (t + 1)) in
-          none_at laws.keeps laws.written built.image input b.code g linking fits able.well_formed in_image
-          (laws.named b.code b.addresses b.linked options.stack options.out_cap built.image b.layouts b.parts input image_of.statics_are b.pack) refl safe
-          (t + 1) r.outcome r.run r.defined r.runs t a (omega arith) out
+          fine_at laws.keeps laws.written built.image input b.code g linking fits able.well_formed in_image
+          (laws.named b.code b.addresses b.linked options.stack options.out_cap built.image b.layouts b.parts input image_of.statics_are b.pack) refl refl safe
+          (t + 1) r.outcome r.run r.defined r.runs t (omega arith)
 
       writes_all : Writes built.image input
-      writes_all = all laws.written built.image input in_image.written fits safe none
+      writes_all = all laws.written built.image input in_image.written fits safe shows fine
 
 pub writes_law : Laws → BuiltWritesLaw
-writes_law laws prog options built s b input fits right safe =
-    writes_all laws prog options built s b input fits (subst (λ (l : List ℕ). IsRightFor (meaning_of (program_of prog) l built.image) input) b.frames.sizes right) safe
+writes_law laws prog options built s b input fits right safe shows =
+    writes_all laws prog options built s b input fits (subst (λ (l : List ℕ). IsRightFor (meaning_of (program_of prog) l built.image) input) b.frames.sizes right) safe shows

@@ -38,7 +38,7 @@ use Rattle.im_replay.proofs.Steps.{paces_plain, paces_save}
 use Rattle.im_replay.proofs.Instance.{followed, wake, can_of}
 use Rattle.im_keeps_writes.specs.Writes.{IsLiveByte}
 
-none_kept : (o : Option ℕ) (d : ℕ) → o ≡ None → unwrap_or o d ≡ d
+pub none_kept : (o : Option ℕ) (d : ℕ) → o ≡ None → unwrap_or o d ≡ d
 none_kept o d h = ap (λ z. unwrap_or z d) h
 
 low_fixed : (code a : ℕ) → a < 4 → is_fixed code a ≡ true
@@ -79,27 +79,36 @@ module _ (run : ℕ → State) (code : ℕ) (u : IsSound run code) where
   section_keeps t x g a l =
       like_keeps t x.regs x.mem g.regs (agrees next_of torn_of boot index_of (memory run) (writes run) (reads run) (flip run) (ends run) is_buffer (is_fixed code) (IsLike run) (IsLive run) resume 33 waking (followed run code u) t x.mem g.tracks) a l
 
-  place_keeps : (s n : ℕ) (x : PathMoment Cpu) → There s n x → x.over ≡ false → (a : ℕ) → IsLiveByte x.mem a → (step_of x.regs x.mem).mem a ≡ x.mem a
-  place_keeps s n x (In_recovery w ws wi) on a l = elim (order w.i 33) [
+  -- recovery writes nothing: a byte stays that stays where a section goes on
+  place_stays : (s n : ℕ) (x : PathMoment Cpu) → There s n x → x.over ≡ false → (a : ℕ) → ((t : ℕ) → Going t x → (step_of x.regs x.mem).mem a ≡ x.mem a) → (step_of x.regs x.mem).mem a ≡ x.mem a
+  place_stays s n x (In_recovery w ws wi) on a h = elim (order w.i 33) [
     | inl before ↦ (
         let can = can_of run code u w.s x.mem (wake run code u w.s x.mem w.begins w.lives (fixed_mixed next_of torn_of boot index_of (memory run) (writes run) (reads run) (flip run) (ends run) is_buffer (is_fixed code) (IsLike run) (IsLive run) resume 33 waking (followed run code u) w.s x.mem w.mixed)) in
         ap (λ c. (step_of c x.mem).mem a) w.at ∙ ap (λ (z : Stepped). z.mem a) (recovery_walks x.mem w.junk can w.i before))
     | inr late ↦ (
         let z : w.i ≡ 33 = (let v = w.within in omega arith) in
-        section_keeps (resume w.s) x (awake next_of torn_of boot index_of (memory run) (writes run) (reads run) (flip run) (ends run) is_buffer (is_fixed code) (IsLike run) (IsLive run) resume 33 waking (followed run code u) x w z) a l)
+        h (resume w.s) (awake next_of torn_of boot index_of (memory run) (writes run) (reads run) (flip run) (ends run) is_buffer (is_fixed code) (IsLike run) (IsLive run) resume 33 waking (followed run code u) x w z))
   ]
-  place_keeps s n x (In_section t age r) on a l = section_keeps t x r a l
-  place_keeps s n x (At_end e) on a l = absurd (let bad : true ≡ false = sym e.over ∙ on in cc)
+  place_stays s n x (In_section t age r) on a h = h t r
+  place_stays s n x (At_end e) on a h = absurd (let bad : true ≡ false = sym e.over ∙ on in cc)
 
-  moment_keeps : (s n : ℕ) (x y : PathMoment Cpu) → There s n x → x ≡ y → y.over ≡ false → (a : ℕ) → IsLiveByte y.mem a → (step_of y.regs y.mem).mem a ≡ y.mem a
-  moment_keeps s n x y place same = place_keeps s n y (subst (λ z. There s n z) same place)
+  moment_stays : (s n : ℕ) (x y : PathMoment Cpu) → There s n x → x ≡ y → y.over ≡ false → (a : ℕ) → ((t : ℕ) → Going t y → (step_of y.regs y.mem).mem a ≡ y.mem a) → (step_of y.regs y.mem).mem a ≡ y.mem a
+  moment_stays s n x y place same = place_stays s n y (subst (λ z. There s n z) same place)
 
 module _ (m : Mem) (code : ℕ) (c : IsReplayable m code) where
   abbrev run : ℕ → State
   run = uninterrupted m
 
-  u : IsSound run code
-  u = sound run code (owed_of m code c)
+  abbrev pub sound_run : IsSound run code
+  sound_run = sound run code (owed_of m code c)
+
+  -- a section goes on at a moment as at time t
+  abbrev pub GoesOnAs : ℕ → Moment → Type 0
+  GoesOnAs t y = Goes_on next_of torn_of boot index_of (memory run) (writes run) (reads run) (flip run) (ends run) is_buffer (is_fixed code) (IsLike run) (IsLive run) resume 33 waking (followed run code sound_run) t (path_of y)
+
+  pub agrees_at : (t : ℕ) (y : Moment) → GoesOnAs t y → Agrees (reads run) (memory run) (is_fixed code) t y.mem
+  agrees_at t y g =
+      agrees next_of torn_of boot index_of (memory run) (writes run) (reads run) (flip run) (ends run) is_buffer (is_fixed code) (IsLike run) (IsLive run) resume 33 waking (followed run code sound_run) t y.mem g.tracks
 
   first : (run 0).mem ≡ m
   first = first_mem m (can_resume m code c)
@@ -111,11 +120,15 @@ module _ (m : Mem) (code : ℕ) (c : IsReplayable m code) where
     | inr over ↦ ap (λ (x : Moment). x.went) (sym (run_over n (power_up junk (after ps m)) over)) ∙ on
   ]
 
-  pub live_stays : (ps : List Period) (n junk a : ℕ) → (within ps n junk m).went ≡ On → IsLiveByte (within ps n junk m).mem a → (step_of (within ps n junk m).cpu (within ps n junk m).mem).mem a ≡ (within ps n junk m).mem a
-  live_stays ps n junk a on l =
+  pub byte_stays : (ps : List Period) (n junk a : ℕ) → (within ps n junk m).went ≡ On → ((t : ℕ) → GoesOnAs t (within ps n junk m) → (step_of (within ps n junk m).cpu (within ps n junk m).mem).mem a ≡ (within ps n junk m).mem a)
+      → (step_of (within ps n junk m).cpu (within ps n junk m).mem).mem a ≡ (within ps n junk m).mem a
+  byte_stays ps n junk a on h =
       let y : Moment = within ps n junk m in
-      let begins : IsLive run 0 m = subst (IsLive run 0) first u.begins in
+      let begins : IsLive run 0 m = subst (IsLive run 0) first sound_run.begins in
       let before : (powered (written_out ps) m).over ≡ false = (after_same ps m).over ∙ going_of (after ps m).went (was_on ps n junk on) in
-      let place = replay_within next_of torn_of boot index_of (memory run) (writes run) (reads run) (flip run) (ends run) is_buffer (is_fixed code) (IsLike run) (IsLive run) resume 33 waking (followed run code u)
+      let place = replay_within next_of torn_of boot index_of (memory run) (writes run) (reads run) (flip run) (ends run) is_buffer (is_fixed code) (IsLike run) (IsLive run) resume 33 waking (followed run code sound_run)
       (written_out ps) n junk (switched_on m) (sym first) refl begins refl before in
-      moment_keeps run code u _ n _ (path_of y) place (within_same ps n junk m) (going_of y.went on) a l
+      moment_stays run code sound_run _ n _ (path_of y) place (within_same ps n junk m) (going_of y.went on) a h
+
+  pub live_stays : (ps : List Period) (n junk a : ℕ) → (within ps n junk m).went ≡ On → IsLiveByte (within ps n junk m).mem a → (step_of (within ps n junk m).cpu (within ps n junk m).mem).mem a ≡ (within ps n junk m).mem a
+  live_stays ps n junk a on l = byte_stays ps n junk a on (λ t g. section_keeps run code sound_run t (path_of (within ps n junk m)) g a l)

@@ -1,7 +1,9 @@
 mod Held
 mod Stored
 mod Places
+mod Fine
 mod Within
 mod Idle
+mod Appending
 mod Moments
 mod Built

@@ -1,9 +1,11 @@
 -- What the run that never loses power doesn't write is at each moment of the others as it was loaded.
-use Rattle.std.proofs.Common.{◌≡◌, ℕ, zero, suc, ◌+◌, ◌<◌, ◌≤◌, inl, inr, Bool, true, false, List, [], ◌∷◌, Some, None, refl, sym, ap, ◌∙◌, arith}
+use Rattle.std.proofs.Common.{◌≡◌, ◌≢◌, ℕ, zero, suc, ◌+◌, ◌<◌, ◌≤◌, inl, inr, Bool, true, false, List, [], ◌∷◌, Some, None, refl, sym, ap, ◌∙◌, arith}
 use Rattle.std.specs.Prelude.{◌-◌, ◌&&◌, ◌||◌, nat_le, nat_lt, unwrap_or}
 use Rattle.std.proofs.lemmas.Bool.{leb-true, and_parts}
 use Rattle.std.proofs.lemmas.Bool.Decides.{nat_tests}
 use Rattle.im_mem.specs.Memory.{Mem}
+use Rattle.im_rv.specs.declared.step.Went.TheVariants.{On}
+use Rattle.im_rv.specs.Runs.{step_of}
 use Rattle.im_rv.proofs.Effecting.{step_mem}
 use Rattle.im_image.specs.Contents.{ImageValue, ObjectValue, AreObjects, IsImage}
 use Rattle.im_power.specs.declared.period.Period.{Period}
@@ -12,6 +14,7 @@ use Rattle.im_device.specs.Run.{Moment}
 use Rattle.im_ckpt.specs.Runs.{State, writes}
 use Rattle.im_ckpt.specs.Buffers.{is_buffer}
 use Rattle.im_replay.specs.Compiled.{RunsSafely, IsReplayable}
+use Rattle.im_replay.specs.Output.{ShowsSafely}
 use Rattle.im_replay.specs.Replays.{after, within}
 use Rattle.im_replay.proofs.Device.{replay_law}
 use Rattle.im_replay.proofs.Endless.{is_run}
@@ -19,8 +22,10 @@ use Rattle.im_keeps.specs.Keeps.{IsInput}
 use Rattle.im_keeps_run.specs.Laws.{run_of}
 use Rattle.im_keeps_written.specs.Written.{IsWritten, code_end, IsLoaded, IsBegun}
 use Rattle.im_keeps_written.specs.Laws.{WrittenLaw}
-use Rattle.im_keeps_writes.specs.Writes.{is_word, is_in, is_stack, is_output, may_change, Writes}
-use Rattle.im_keeps_writes.proofs.Idle.{live_stays, torn_keeps}
+use Rattle.im_keeps_writes.specs.Writes.{is_word, is_in, is_stack, is_output, may_change, output_end, Writes}
+use Rattle.im_keeps_writes.proofs.Fine.{IsFine}
+use Rattle.im_keeps_writes.proofs.Idle.{sound_run, agrees_at, byte_stays, live_stays, torn_keeps}
+use Rattle.im_keeps_writes.proofs.Appending.{like_appends}
 
 -- what may not change is no byte of a buffer
 no_buffer : (v w x y z : Bool) → (v || w || x || y || z) ≡ false → w ≡ false
@@ -46,8 +51,11 @@ no_word a low = grind (arith, nat_tests)
 not_in_buffer : (a : ℕ) → 4096 ≤ a → is_buffer a ≡ false
 not_in_buffer a low = grind (arith, nat_tests)
 
-no_output : (a : ℕ) → a < 1048576 → is_output a ≡ false
-no_output a high = grind (arith, nat_tests)
+no_output : (image : ImageValue) (a : ℕ) → a < 1048576 → is_output image a ≡ false
+no_output image a high = below (4194304 + image.out_cap)
+  where
+    below : (end : ℕ) → (nat_le 4194304 a && nat_lt a end) ≡ false
+    below end = grind (arith, nat_tests)
 
 no_stack : (image : ImageValue) (a : ℕ) → image.stack ≤ 1048576 → a < 1048576 → is_stack image a ≡ false
 no_stack image a few high = by (3145728 - image.stack) (omega arith)
@@ -60,12 +68,15 @@ none_of v w x y z a b c d e = ap (λ t. t || w || x || y || z) a ∙ ap (λ t. t
 
 code_stays : (image : ImageValue) → IsImage image → (a : ℕ) → 4096 ≤ a → a < 1048576 → may_change image a ≡ false
 code_stays image is a low high =
-    none_of (is_word a) (is_buffer a) (is_in image.objects a) (is_stack image a) (is_output a) (no_word a low) (not_in_buffer a low)
-    (below_objects _ 1048576 image.objects a is.objects high) (no_stack image a (leb-true _ _ (and_parts _ _ is.stack).1) high) (no_output a high)
+    none_of (is_word a) (is_buffer a) (is_in image.objects a) (is_stack image a) (is_output image a) (no_word a low) (not_in_buffer a low)
+    (below_objects _ 1048576 image.objects a is.objects high) (no_stack image a (leb-true _ _ (and_parts _ _ is.stack).1) high) (no_output image a high)
 
-module _ (law : WrittenLaw) (image : ImageValue) (input : List ℕ) (written : IsWritten image) (fits : IsInput input) (safe : RunsSafely (run_of image input) (code_end image)) (none : (t a : ℕ) → may_change image a ≡ false → writes (run_of image input) t a ≡ None) where
+module _ (law : WrittenLaw) (image : ImageValue) (input : List ℕ) (written : IsWritten image) (fits : IsInput input) (safe : RunsSafely (run_of image input) (code_end image)) (shows : ShowsSafely (run_of image input)) (fine : (t : ℕ) → IsFine image (run_of image input t)) where
   abbrev r : ℕ → State
   r = run_of image input
+
+  none : (t a : ℕ) → may_change image a ≡ false → writes r t a ≡ None
+  none t a out = (fine t).none a out
 
   loaded : IsLoaded image input
   loaded = law.loaded image input written fits
@@ -94,10 +105,17 @@ module _ (law : WrittenLaw) (image : ImageValue) (input : List ℕ) (written : I
   same : (periods : List Period) (a : ℕ) → may_change image a ≡ false → (after periods (memory_of image input)).mem a ≡ memory_of image input a
   same periods a out =
       let s = (replay_law (memory_of image input) (code_end image) replayable).after_periods periods in
-      elim (s.bytes a (no_buffer (is_word a) (is_buffer a) (is_in image.objects a) (is_stack image a) (is_output a) out)) [
+      elim (s.bytes a (no_buffer (is_word a) (is_buffer a) (is_in image.objects a) (is_stack image a) (is_output image a) out)) [
         | inl e ↦ e ∙ stays s.s a out
         | inr w ↦ absurd (let n = none w.time a out in let bad : Some ((after periods (memory_of image input)).mem a) ≡ None = sym w.value ∙ n in cc)
       ]
+
+  end_stays : (periods : List Period) (n junk a : ℕ) → (within periods n junk (memory_of image input)).went ≡ On → 4194304 ≤ a → a ≢ output_end image (within periods n junk (memory_of image input)).mem
+      → (step_of (within periods n junk (memory_of image input)).cpu (within periods n junk (memory_of image input)).mem).mem a ≡ (within periods n junk (memory_of image input)).mem a
+  end_stays periods n junk a on far other =
+      let x : Moment = within periods n junk (memory_of image input) in
+      byte_stays (memory_of image input) (code_end image) replayable periods n junk a on (λ t g.
+      like_appends image written.form r (code_end image) (sound_run (memory_of image input) (code_end image) replayable) shows fine t x.mem g.tracks.mixed x.cpu g.regs (agrees_at (memory_of image input) (code_end image) replayable t x g) a far other)
 
   pub all : Writes image input
   all = record {
@@ -106,5 +124,9 @@ module _ (law : WrittenLaw) (image : ImageValue) (input : List ℕ) (written : I
     live = λ periods n junk on mask a l.
         let x : Moment = within periods n junk (memory_of image input) in
         let e = live_stays (memory_of image input) (code_end image) replayable periods n junk a on l in
+        (e, torn_keeps mask x.cpu x.mem a e);
+    appends = λ periods n junk on mask a far other.
+        let x : Moment = within periods n junk (memory_of image input) in
+        let e = end_stays periods n junk a on far other in
         (e, torn_keeps mask x.cpu x.mem a e);
   }

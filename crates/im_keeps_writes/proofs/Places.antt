@@ -1,12 +1,13 @@
 -- A store in order, of which statics and stack hold what lies there, changes bytes that may change.
-use Rattle.std.proofs.Common.{◌≡◌, ◌≢◌, ℕ, zero, suc, ◌+◌, ◌<◌, ◌≤◌, inl, inr, Bool, true, false, cond, List, [], ◌∷◌, Option, Some, None, refl, sym, ap, ◌∙◌, subst, arith}
+use Rattle.std.proofs.Common.{◌≡◌, ◌≢◌, ℕ, zero, suc, ◌+◌, ◌<◌, ◌≤◌, ◌⊎◌, inl, inr, Bool, true, false, cond, List, [], ◌∷◌, Option, Some, None, refl, sym, ap, ◌∙◌, subst, arith}
 use Rattle.std.specs.Prelude.{◌-◌, ◌==◌, ◌&&◌, ◌||◌, nat_le, nat_lt, slice_get}
 use Rattle.std.specs.Option.{option_map}
 use Rattle.std.proofs.lemmas.Bool.{leb-true, and_parts, or_right}
 use Rattle.std.proofs.lemmas.Bool.Decides.{nat_tests}
-use Rattle.im_mem.specs.Memory.{is_place}
+use Rattle.im_mem.specs.Memory.{Mem, little, is_place}
 use Rattle.im_rv_reach.specs.Touches.{Stored, is_system}
 use Rattle.im_rv_reach.specs.Seen.{in_buffer}
+use Rattle.im_rv_reach.specs.Plain.{IsApart, IsDue}
 use Rattle.im_rv_reach.specs.Orderly.{Free, Low, Select, Wrong, is_free, is_low, place_of}
 use Rattle.im_rtlib_laws.proofs.Sections.{place_sizes}
 use Rattle.im_replay_path.proofs.Times.{order}
@@ -85,8 +86,20 @@ static_in p u os b n a named h low high =
 
 -- ---- by the place
 
-low_word : (a : ℕ) → a ≤ 36 → is_word a ≡ true
-low_word a h = grind (arith, nat_tests)
+low_word : (a : ℕ) → a ≤ 36 → (a < 16) ⊎ (24 ≤ a) → (a < 28) ⊎ (32 ≤ a) → is_word a ≡ true
+low_word a h (inl low) limit = grind (arith, nat_tests)
+low_word a h (inr above) (inl low) = grind (arith, nat_tests)
+low_word a h (inr above) (inr high) = grind (arith, nat_tests)
+
+-- what is apart from the settings is no byte of them
+beside_word : (b n a word : ℕ) → IsApart b n word → b ≤ a → a < b + n → (a < word) ⊎ (word + 4 ≤ a)
+beside_word b n a word (inl below) low high = inl (omega arith)
+beside_word b n a word (inr above) low high = inr (omega arith)
+
+beside_both : (a : ℕ) → (a < 16) ⊎ (20 ≤ a) → (a < 20) ⊎ (24 ≤ a) → (a < 16) ⊎ (24 ≤ a)
+beside_both a (inl low) other = inl low
+beside_both a (inr above) (inr high) = inr high
+beside_both a (inr above) (inl low) = absurd (omega arith)
 
 -- it isn't there
 wrong : (b n : ℕ) → is_free b n ≡ false → is_low b n ≡ false → (b == 36 && n == 1) ≡ false → place_of b n ≡ Wrong
@@ -122,51 +135,56 @@ in_buffers b n a place inside low high =
       | inr (inr q) ↦ (let x = q.0 in let y = q.1 in buffer_byte a (omega arith) (omega arith))
     ]
 
-small_place : (b n : ℕ) → is_place b n ≡ true → n ≤ 4
+pub small_place : (b n : ℕ) → is_place b n ≡ true → n ≤ 4
 small_place b n place = elim (place_sizes b n place) [
   | inl q ↦ omega arith
   | inr (inl q) ↦ (let x = q.0 in omega arith)
   | inr (inr q) ↦ (let x = q.0 in omega arith)
 ]
 
-place_end : (b n : ℕ) → is_place b n ≡ true → b + n ≤ 5242880
-place_end b n place = leb-true _ _ (and_parts _ _ place).1
-
-output_byte : (a : ℕ) → 4194304 ≤ a → a < 5242880 → is_output a ≡ true
-output_byte a low high = grind (arith, nat_tests)
+output_byte : (image : ImageValue) (a : ℕ) → 4194304 ≤ a → a < 4194304 + image.out_cap → is_output image a ≡ true
+output_byte image a low high = within (4194304 + image.out_cap) high
+  where
+    within : (end : ℕ) → a < end → (nat_le 4194304 a && nat_lt a end) ≡ true
+    within end less = grind (arith, nat_tests)
 
 stack_byte : (image : ImageValue) (a : ℕ) → 3145728 - image.stack ≤ a → a < 3145728 → is_stack image a ≡ true
 stack_byte image a low high = grind (arith, nat_tests)
 
-module _ (image : ImageValue) (p : Linking) (u : Code) (g : Setting) (named : AreNamed p 0 (statics_of u) image.objects) (stack : g.stack ≡ image.stack) where
+module _ (image : ImageValue) (p : Linking) (u : Code) (g : Setting) (named : AreNamed p 0 (statics_of u) image.objects) (stack : g.stack ≡ image.stack) (m k : Mem) (capacity : little m 16 4 ≡ image.out_cap) where
   held_may : (b n a : ℕ) → b ≤ a → a < b + n → IsHeld p u g b n → may_change image a ≡ true
-  held_may b n a low high (inl h) = third (is_word a) (is_buffer a) (is_in image.objects a) (is_stack image a) (is_output a) (static_in p u image.objects b n a named h low high)
+  held_may b n a low high (inl h) = third (is_word a) (is_buffer a) (is_in image.objects a) (is_stack image a) (is_output image a) (static_in p u image.objects b n a named h low high)
   held_may b n a low high (inr h) =
       let from = h.0 in
       let to = h.1 in
-      fourth (is_word a) (is_buffer a) (is_in image.objects a) (is_stack image a) (is_output a) (stack_byte image a (omega (arith, from, stack, low)) (omega arith))
+      fourth (is_word a) (is_buffer a) (is_in image.objects a) (is_stack image a) (is_output image a) (stack_byte image a (omega (arith, from, stack, low)) (omega arith))
 
-  data_may : (b n a : ℕ) → is_place b n ≡ true → b ≤ a → a < b + n → 1048576 ≤ b → place_of b n ≢ Wrong → (is_system b ≡ false → IsHeld p u g b n) → may_change image a ≡ true
-  data_may b n a place low high beyond fine own = elim (order 3145728 (b + n)) [
+  data_may : (b n a : ℕ) → b ≤ a → a < b + n → 1048576 ≤ b → place_of b n ≢ Wrong → IsDue m k b n → (is_system b ≡ false → IsHeld p u g b n) → may_change image a ≡ true
+  data_may b n a low high beyond fine due own = elim (order 3145728 (b + n)) [
     | inr less ↦ held_may b n a low high (own (data_own b beyond (omega arith)))
     | inl over ↦ elim (order b 4194304) [
       | inl less ↦ absurd (fine (wrong_between b n beyond over less))
       | inr out ↦ (
-          let end = place_end b n place in
-          fifth (is_word a) (is_buffer a) (is_in image.objects a) (is_stack image a) (is_output a) (output_byte a (omega arith) (omega arith)))
+          let next = due.appends (omega arith) in
+          let one = next.one in
+          let room = next.room in
+          let behind = next.next in
+          fifth (is_word a) (is_buffer a) (is_in image.objects a) (is_stack image a) (is_output image a) (output_byte image a (omega arith) (omega arith)))
     ]
   ]
 
-  high_may : (b n a : ℕ) → is_place b n ≡ true → b ≤ a → a < b + n → 36 < a → IsInOrder (Stored b n) → (is_system b ≡ false → IsHeld p u g b n) → may_change image a ≡ true
-  high_may b n a place low high more (inl zero_) own = absurd (let few = small_place b n place in omega arith)
-  high_may b n a place low high more (inr (inl q)) own = second (is_word a) (is_buffer a) (is_in image.objects a) (is_stack image a) (is_output a) (in_buffers b n a place q low high)
-  high_may b n a place low high more (inr (inr fine)) own = elim (order b 1048576) [
+  high_may : (b n a : ℕ) → is_place b n ≡ true → b ≤ a → a < b + n → 36 < a → IsInOrder (Stored b n) → IsDue m k b n → (is_system b ≡ false → IsHeld p u g b n) → may_change image a ≡ true
+  high_may b n a place low high more (inl zero_) due own = absurd (let few = small_place b n place in omega arith)
+  high_may b n a place low high more (inr (inl q)) due own = second (is_word a) (is_buffer a) (is_in image.objects a) (is_stack image a) (is_output image a) (in_buffers b n a place q low high)
+  high_may b n a place low high more (inr (inr fine)) due own = elim (order b 1048576) [
     | inl less ↦ absurd (fine (wrong_low b n a low high more less))
-    | inr beyond ↦ data_may b n a place low high beyond fine own
+    | inr beyond ↦ data_may b n a low high beyond fine due own
   ]
 
-  pub may : (b n a : ℕ) → is_place b n ≡ true → b ≤ a → a < b + n → IsInOrder (Stored b n) → (is_system b ≡ false → IsHeld p u g b n) → may_change image a ≡ true
-  may b n a place low high order_ own = elim (order 36 a) [
-    | inr word ↦ ap (λ z. z || is_buffer a || is_in image.objects a || is_stack image a || is_output a) (low_word a word)
-    | inl more ↦ high_may b n a place low high more order_ own
+  pub may : (b n a : ℕ) → is_place b n ≡ true → b ≤ a → a < b + n → IsInOrder (Stored b n) → IsDue m k b n → (is_system b ≡ false → IsHeld p u g b n) → may_change image a ≡ true
+  may b n a place low high order_ due own = elim (order 36 a) [
+    | inr word ↦ (
+        let settings = beside_both a (beside_word b n a 16 due.capacity low high) (beside_word b n a 20 due.input low high) in
+        ap (λ z. z || is_buffer a || is_in image.objects a || is_stack image a || is_output image a) (low_word a word settings (beside_word b n a 28 due.limit low high)))
+    | inl more ↦ high_may b n a place low high more order_ due own
   ]

@@ -1,6 +1,6 @@
 -- Which memory a run of an image may change: no other byte is ever changed, wherever power fails.
-use Rattle.std.specs.Prelude.{◌≡◌, ◌<◌, ◌≤◌, ℕ, ◌+◌, ◌-◌, Bool, false, ◌&&◌, ◌||◌, nat_le, nat_lt, List, [], ◌∷◌}
-use Rattle.im_mem.specs.Map.{memory_size, out_sel_at, code_start, statics_start, stack_end, output_start}
+use Rattle.std.specs.Prelude.{◌≡◌, ◌≢◌, ◌<◌, ◌≤◌, ℕ, ◌+◌, ◌-◌, Bool, false, ◌&&◌, ◌||◌, nat_le, nat_lt, List, [], ◌∷◌, length}
+use Rattle.im_mem.specs.Map.{out_cap_at, in_pos_at, stack_lim_at, out_len1_at, out_sel_at, code_start, statics_start, stack_end, output_start}
 use Rattle.im_mem.specs.Memory.{Mem}
 use Rattle.im_rv.specs.declared.step.Went.TheVariants.{On}
 use Rattle.im_rv.specs.Runs.{step_of}
@@ -8,14 +8,16 @@ use Rattle.im_rv.specs.Torn.{torn_of}
 use Rattle.im_image.specs.Contents.{ImageValue, ObjectValue}
 use Rattle.im_power.specs.declared.period.Period.{Period}
 use Rattle.im_device.specs.Load.{memory_of}
+use Rattle.im_device.specs.Shows.{output_of}
 use Rattle.im_device.specs.Run.{Moment, index_of}
 use Rattle.im_ckpt.specs.Buffers.{buffer, is_buffer}
 use Rattle.im_replay.specs.Replays.{within}
 use Rattle.im_keeps.specs.Keeps.{device_after}
 
--- a byte of the runtime's words in the low page, which are those from INDEX to the byte OUT_SEL
+-- a byte of the words of the low page that the runtime stores: INDEX, STATUS, REASON and OUT_LEN0, which stand below OUT_CAP;
+-- IN_POS; OUT_LEN1 and the byte OUT_SEL. The settings OUT_CAP, IN_LEN and STACK_LIM are none of them
 abbrev pub is_word : ℕ → Bool
-is_word a = nat_le a out_sel_at
+is_word a = nat_lt a out_cap_at || (nat_le in_pos_at a && nat_lt a stack_lim_at) || (nat_le out_len1_at a && nat_le a out_sel_at)
 
 -- a byte of one of these objects
 abbrev pub is_in : List ObjectValue → ℕ → Bool
@@ -26,13 +28,13 @@ is_in (object ∷ others) a = (nat_le object.at a && nat_lt a (object.at + objec
 abbrev pub is_stack : ImageValue → ℕ → Bool
 is_stack image a = nat_le (stack_end - image.stack) a && nat_lt a stack_end
 
--- a byte of the output's area
-abbrev pub is_output : ℕ → Bool
-is_output a = nat_le output_start a && nat_lt a memory_size
+-- a byte of the output's area, as far as the image's capacity reaches
+abbrev pub is_output : ImageValue → ℕ → Bool
+is_output image a = nat_le output_start a && nat_lt a (output_start + image.out_cap)
 
 -- a byte that a run may change: of the runtime's words, of the register buffers, of an object, of the stack or of the output
 abbrev pub may_change : ImageValue → ℕ → Bool
-may_change image a = is_word a || is_buffer a || is_in image.objects a || is_stack image a || is_output a
+may_change image a = is_word a || is_buffer a || is_in image.objects a || is_stack image a || is_output image a
 
 -- a byte of the live register buffer, which INDEX names
 abbrev pub IsLiveByte : Mem → ℕ → Type 0
@@ -42,6 +44,14 @@ IsLiveByte m a = (buffer (index_of m) ≤ a) × (a < buffer (index_of m) + 128)
 abbrev pub LeavesLive : Moment → Type 0
 LeavesLive x = (mask a : ℕ) → IsLiveByte x.mem a → ((step_of x.cpu x.mem).mem a ≡ x.mem a) × (torn_of mask x.cpu x.mem a ≡ x.mem a)
 
+-- the address behind what is shown
+abbrev pub output_end : ImageValue → Mem → ℕ
+output_end image m = output_start + length (output_of image.form m)
+
+-- the step that comes next, whole or torn, leaves each byte of the output's area but the one behind what is shown
+abbrev pub AppendsAtMost : ImageValue → Moment → Type 0
+AppendsAtMost image x = (mask a : ℕ) → output_start ≤ a → a ≢ output_end image x.mem → ((step_of x.cpu x.mem).mem a ≡ x.mem a) × (torn_of mask x.cpu x.mem a ≡ x.mem a)
+
 pub record Writes (image : ImageValue) (input : List ℕ) : Type 0 where
   -- after every list of periods, and so at every moment, the one within a store among them: each other byte is as it was loaded
   pub same : (periods : List Period) (a : ℕ) → may_change image a ≡ false → (device_after image input periods).mem a ≡ memory_of image input a
@@ -49,3 +59,5 @@ pub record Writes (image : ImageValue) (input : List ℕ) : Type 0 where
   pub code : (periods : List Period) (a : ℕ) → code_start ≤ a → a < statics_start → (device_after image input periods).mem a ≡ memory_of image input a
   -- of the register buffers the idle one alone is changed, at every moment with power on
   pub live : (periods : List Period) (n junk : ℕ) → (within periods n junk (memory_of image input)).went ≡ On → LeavesLive (within periods n junk (memory_of image input))
+  -- output is stored at its end alone, at every moment with power on
+  pub appends : (periods : List Period) (n junk : ℕ) → (within periods n junk (memory_of image input)).went ≡ On → AppendsAtMost image (within periods n junk (memory_of image input))

@@ -174,7 +174,7 @@ offset_near (c ∷ cs) zero h = h.0
 offset_near (c ∷ cs) (suc from) h = offset_near cs from h.1
 
 -- an argument is there where a service has a parameter
-is-unary : (p : Option Kind) (shape : Option Access) → IsGiven p shape → IsUnary p
+is-unary : (parameter : Option Kind) (shape : Option p.Access) → IsGiven parameter shape → IsUnary parameter
 is-unary None shape h = h
 is-unary (Some kind) shape h = tt
 
@@ -488,12 +488,12 @@ module _ (g : p.Prog) (f : p.Func) (code : Function) (first low limit : ℕ) (pr
         (arguments_add (parameters (slice_get g.funcs k)) es ty.1 (c + (7 + 4 * count_of es)) t m _ free lf (omega arith)
         (adds_call g code low limit to k free (count_of es) (register to lt t1) lf (omega arith) facts.few facts.takes h))
     adds (p.Serve service p.no_argument) ty c t m n to free lt lf t1 le h =
-        at_most g code low limit (c + 64 * 1) t (omega arith) (omega arith) (adds_service g code low limit to (register to lt t1) ty h)
+        at_most g code low limit (c + 64 * 1) t (omega arith) (omega arith) (adds_service g code low limit service to (register to lt t1) ty h)
     adds (p.Serve service (p.an_argument e)) ty c t m n to free lt lf t1 le h =
         let one = nodes_positive e in
         at_most g code low limit (c + 64 * (1 + expr_nodes e)) t (omega arith) (omega arith)
         (adds e ty.0 (c + 11) t m _ free (free + 1) lf (omega arith) (omega arith) (omega arith)
-        (adds_service_of g code low limit to free (register to lt t1) (register free lf (omega arith)) (is-unary (row service).parameter (shape_of g e) ty.1) h))
+        (adds_service_of g code low limit service to free (register to lt t1) (register free lf (omega arith)) (is-unary (row service).parameter (shape_of g e) ty.1) h))
 
     pub arguments_add : (os : List p.LocalObject) (es : p.Exprs) → AreArguments g f os es → (c t : ℕ) (m n : Made) (free : ℕ) → low ≤ free → free + 1 + exprs_nodes es ≤ limit → Step g code low limit c t m n → Step g code low limit (c + 64 * exprs_nodes es) t m (make_arguments g first es free n)
     arguments_add os p.no_exprs ty c t m n free lf le h = at_most g code low limit (c + 64 * 0) t (omega arith) (omega arith) h

@@ -77,8 +77,8 @@ module _ (g : p.Prog) (code : Function) (low limit : ℕ) where
       let below = r.below in
       step_put g code low limit (PutNull to) 7 (record { small = omega arith; calls = tt; from = r.from; uncut = tt; placeable = tt }) refl (omega arith) (omega arith) h
 
-  pub adds_service : {service : Service} {c t : ℕ} {m n : Made} (to : ℕ) → R to → IsNullary (row service).parameter → Step g code low limit c t m n → Step g code low limit (c + 7) t m (put (Serve to service None) n)
-  adds_service {service} to r ok h =
+  pub adds_service : (service : Service) {c t : ℕ} {m n : Made} (to : ℕ) → R to → IsNullary (row service).parameter → Step g code low limit c t m n → Step g code low limit (c + 7) t m (put (Serve to service None) n)
+  adds_service service to r ok h =
       let below = r.below in
       step_put g code low limit (Serve to service None) 7 (record { small = omega arith; calls = tt; from = r.from; uncut = tt; placeable = ok }) refl (omega arith) (omega arith) h
 
@@ -101,8 +101,8 @@ module _ (g : p.Prog) (code : Function) (low limit : ℕ) where
       let under = s.below in
       step_put g code low limit (Not to from) 10 (record { small = omega arith; calls = tt; from = (r.from, s.from); uncut = tt; placeable = tt }) refl (omega arith) (omega arith) h
 
-  pub adds_service_of : {service : Service} {c t : ℕ} {m n : Made} (to from : ℕ) → R to → R from → IsUnary (row service).parameter → Step g code low limit c t m n → Step g code low limit (c + 11) t m (put (Serve to service (Some from)) n)
-  adds_service_of {service} to from r s ok h =
+  pub adds_service_of : (service : Service) {c t : ℕ} {m n : Made} (to from : ℕ) → R to → R from → IsUnary (row service).parameter → Step g code low limit c t m n → Step g code low limit (c + 11) t m (put (Serve to service (Some from)) n)
+  adds_service_of service to from r s ok h =
       let below = r.below in
       let under = s.below in
       step_put g code low limit (Serve to service (Some from)) 11 (record { small = omega arith; calls = tt; from = (r.from, s.from); uncut = tt; placeable = ok }) refl (omega arith) (omega arith) h

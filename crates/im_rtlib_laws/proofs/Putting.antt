@@ -1,5 +1,5 @@
 -- putchar, part by part: it reads the length, stores the byte, the other length, the selector.
-use Rattle.std.proofs.Common.{◌≡◌, ℕ, suc, ◌+◌, ◌%◌, ◌<◌, ◌≤◌, ◌⊎◌, inl, inr, Bool, true, false, cond, List, [], ◌∷◌, refl, sym, ap, ◌∙◌, subst, arith}
+use Rattle.std.proofs.Common.{◌≡◌, ℕ, suc, ◌+◌, ◌%◌, ◌<◌, ◌≤◌, ◌⊎◌, inl, inr, Bool, true, false, cond, List, [], ◌∷◌, length, refl, sym, ap, ◌∙◌, subst, arith}
 use Rattle.std.specs.Prelude.{◌==◌, nat_lt, bit_and}
 use Rattle.std.proofs.lemmas.Bool.Decides.{nat_tests}
 use Rattle.std.proofs.lemmas.Grind.{and_numeral}
@@ -14,8 +14,8 @@ use Rattle.im_rv.specs.Decode.{Line}
 use Rattle.im_rv.specs.Lines.{instruction}
 use Rattle.im_image.specs.declared.form.Form.TheVariants.{TwoLengths}
 use Rattle.im_device.specs.Shows.{output_length}
-use Rattle.im_rv_reach.specs.Plain.{in_runtime, IsBehindCall}
-use Rattle.im_rv_reach.proofs.Reach.{data_store, due_beside}
+use Rattle.im_rv_reach.specs.Plain.{in_runtime, IsDue, IsBehindCall}
+use Rattle.im_rv_reach.proofs.Reach.{data_allowed, due_beside, unset_above}
 use Rattle.im_rv_reach.specs.Touches.{Touch, Loaded, Stored, Flipped}
 use Rattle.im_rv_reach.specs.Seen.{seen}
 use Rattle.im_rv_reach.specs.Shown.{shown, Begins}
@@ -25,7 +25,7 @@ use Rattle.im_rtlib.specs.Routines.{putchar_label}
 use Rattle.im_rtlib_laws.specs.Standing.{HasRoutines, distance}
 use Rattle.im_rtlib_laws.proofs.Ran.{Ran, at, begins_same, byte_stored, byte_place, follow, put_step, load_step, store_step}
 use Rattle.im_rtlib_laws.proofs.Saving.{Kept, none_reg, kept_fixed, kept_shown, kept_quiet}
-use Rattle.im_rtlib_laws.proofs.Showing.{byte_is, selected, other, length_by, shown_alike}
+use Rattle.im_rtlib_laws.proofs.Showing.{byte_is, selected, other, length_by, length_shown, shown_alike}
 use Rattle.im_rtlib_laws.proofs.Cutting.{spot, jump, same_on, apart_to, less_on, full_to, return, Committed, commit}
 
 -- the lines, from a place on
@@ -128,6 +128,9 @@ is_zero n e = grind (arith, nat_tests)
 tested : (n : ℕ) (b : Bool) → (n == 0) ≡ b → as_number (nat_lt n 1) ≡ turned b
 tested n true e = ap (λ z. as_number (nat_lt z 1)) (is_zero n e)
 tested n false e = ap as_number (not_less n (not_zero n e))
+
+less_room : (a b : ℕ) → nat_lt a b ≡ true → a < b
+less_room a b h = grind (arith, nat_tests)
 
 module _ (image : Mem) (place : ℕ → ℕ) (has : HasRoutines image place) (p : ℕ) (lines : PutLines image place p) where
   -- ---- the length
@@ -259,6 +262,20 @@ module _ (image : Mem) (place : ℕ → ℕ) (has : HasRoutines image place) (p 
     pub shows : shown at_byte.k ≡ shown m
     pub selector : at_byte.k 36 ≡ m 36
 
+  -- the byte behind the output is due where there is room
+  next_byte : (m k : Mem) (n : ℕ) → output_length TwoLengths m ≡ n → n < 1048576 → nat_lt n (little m 16 4) ≡ true → IsDue m k (4194304 + n) 1
+  next_byte m k n long small room =
+      let count : length (shown m) ≡ n = length_shown m n long (omega arith) in
+      record {
+        first = λ z. inr (omega arith);
+        second = λ z. inr (omega arith);
+        turns = λ z. absurd (omega arith);
+        capacity = inr (omega arith);
+        input = inr (omega arith);
+        limit = inr (omega arith);
+        appends = λ z. record { one = refl; next = ap (λ l. 4194304 + l) (sym count); room = subst (λ l. l < little m 16 4) (sym count) (less_room n (little m 16 4) room) };
+      }
+
   pub append : (m : Mem) (x : ℕ → ℕ) (n v : ℕ) → Fixed image m → x 0 ≡ 0 → x 6 ≡ n → x 10 ≡ v → output_length TwoLengths m ≡ n → n < 1048576 → nat_lt n (little m 16 4) ≡ true → little m 0 4 < 2 → ((a : ℕ) → m a < 256) → Appended m x n v
   append m x n v fixed x0 x6 x10 long small room index bytes =
       let a : ℕ = 4194304 + n in
@@ -279,7 +296,7 @@ module _ (image : Mem) (place : ℕ → ℕ) (has : HasRoutines image place) (p 
       let s1 : Ran 1 [] (at (spot p 7) x1) m (at (spot p 8) x1) m = less_on image m (spot p 7) x1 6 7 (distance (spot p 7) (spot p 22)) fixed lines.l7 (ap (λ z. nat_lt z (little m 16 4)) x6 ∙ room) in
       let s2 : Ran 1 [] (at (spot p 8) x1) m (at (spot p 9) x2) m = put_step image m (spot p 8) x1 (instruction Lui 7 0 0 0x400) 4194304 fixed lines.l8 refl refl in
       let s3 : Ran 1 [] (at (spot p 9) x2) m (at (spot p 10) x3) m = put_step image m (spot p 9) x2 (instruction Add 7 7 6 0) a fixed lines.l9 (ap (λ z. Puts z (sum_of (spot p 9) 4)) sum) refl in
-      let s4 : Ran 1 (seen (Stored a 1 ∷ [])) (at (spot p 10) x3) m (at (spot p 11) x3) m1 = store_step image m (spot p 10) x3 (instruction Sb 0 7 10 0) a 1 v fixed lines.l10 (ap (λ z. Stores z 1 (x 10)) there ∙ ap (λ z. Stores a 1 z) x10) (byte_place a (omega arith)) (begins_same (shown m) (shown m1) same) (data_store (in_runtime (spot p 10)) a 1 (omega arith)).allowed ((data_store (in_runtime (spot p 10)) a 1 (omega arith)).due m m1) in
+      let s4 : Ran 1 (seen (Stored a 1 ∷ [])) (at (spot p 10) x3) m (at (spot p 11) x3) m1 = store_step image m (spot p 10) x3 (instruction Sb 0 7 10 0) a 1 v fixed lines.l10 (ap (λ z. Stores z 1 (x 10)) there ∙ ap (λ z. Stores a 1 z) x10) (byte_place a (omega arith)) (begins_same (shown m) (shown m1) same) (data_allowed (in_runtime (spot p 10)) a 1 (omega arith)) (next_byte m m1 n long small room) in
       let s4' : Ran 1 (Stored a 1 ∷ []) (at (spot p 10) x3) m (at (spot p 11) x3) m1 = subst (λ us. Ran 1 us (at (spot p 10) x3) m (at (spot p 11) x3) m1) (byte_stored a (omega arith)) s4 in
       let s5 : Ran 1 [] (at (spot p 11) x3) m1 (at (spot p 12) x4) m1 = put_step image m1 (spot p 11) x3 (instruction Addi 6 6 0 1) (suc n) fixed1 lines.l11 (ap (λ z. Puts z (sum_of (spot p 11) 4)) next) refl in
       let c : Committed m1 (spot p 12) x4 = commit image place has m1 (spot p 12) x4 lines.l12 fixed1 x0 (subst (λ z. z < 2) (sym (word 0 (omega arith))) index) (written-small m a 1 v bytes) in
@@ -333,7 +350,7 @@ module _ (image : Mem) (place : ℕ → ℕ) (has : HasRoutines image place) (p 
       let fixed1 : Fixed image m1 = fixed_by m 32 4 v (inl (omega arith)) fixed in
       let end = lines.l17.low in
       let s0 : Ran 1 [] (at (spot p 13) x) m (at (spot p 14) x) m = same_on image m (spot p 13) x 5 0 (distance (spot p 13) (spot p 16)) fixed lines.l13 (ap (λ z. x 5 == z) x0 ∙ x5) in
-      let s1 : Ran 1 (Stored 32 4 ∷ []) (at (spot p 14) x) m (at (spot p 15) x) m1 = store_step image m (spot p 14) x (instruction Sw 0 0 6 32) 32 4 v fixed lines.l14 (ap (λ z. Stores (sum_of z 32) 4 (x 6)) x0 ∙ ap (λ z. Stores 32 4 z) x6) refl (begins_same (shown m) (shown m1) same) refl (record { first = λ z. inr (omega arith); second = λ z. absurd (z (is_zero (m 36) sel)); turns = λ z. absurd (omega arith) }) in
+      let s1 : Ran 1 (Stored 32 4 ∷ []) (at (spot p 14) x) m (at (spot p 15) x) m1 = store_step image m (spot p 14) x (instruction Sw 0 0 6 32) 32 4 v fixed lines.l14 (ap (λ z. Stores (sum_of z 32) 4 (x 6)) x0 ∙ ap (λ z. Stores 32 4 z) x6) refl (begins_same (shown m) (shown m1) same) refl (record { first = λ z. inr (omega arith); second = λ z. absurd (z (is_zero (m 36) sel)); turns = λ z. absurd (omega arith); capacity = inr (omega arith); input = inr (omega arith); limit = inr (omega arith); appends = λ z. absurd (omega arith) }) in
       let x1 : ℕ → ℕ = with_reg x 0 (sum_of (spot p 15) 4) in
       let s2 : Ran 1 [] (at (spot p 15) x) m1 (at (spot p 17) x1) m1 = jump image m1 (spot p 15) x (spot p 17) fixed1 lines.l15 (omega arith) in
       let none = none_reg x (sum_of (spot p 15) 4) in
@@ -352,7 +369,7 @@ module _ (image : Mem) (place : ℕ → ℕ) (has : HasRoutines image place) (p 
       let fixed1 : Fixed image m1 = fixed_by m 12 4 v (inl (omega arith)) fixed in
       let end = lines.l16.low in
       let s0 : Ran 1 [] (at (spot p 13) x) m (at (spot p 16) x) m = apart_to image m (spot p 13) x 5 0 (spot p 16) fixed lines.l13 (ap (λ z. x 5 == z) x0 ∙ x5) (omega arith) in
-      let s1 : Ran 1 (Stored 12 4 ∷ []) (at (spot p 16) x) m (at (spot p 17) x) m1 = store_step image m (spot p 16) x (instruction Sw 0 0 6 12) 12 4 v fixed lines.l16 (ap (λ z. Stores (sum_of z 12) 4 (x 6)) x0 ∙ ap (λ z. Stores 12 4 z) x6) refl (begins_same (shown m) (shown m1) same) refl (record { first = λ z. absurd (let q = not_zero (m 36) sel in omega arith); second = λ z. inl (omega arith); turns = λ z. absurd (omega arith) }) in
+      let s1 : Ran 1 (Stored 12 4 ∷ []) (at (spot p 16) x) m (at (spot p 17) x) m1 = store_step image m (spot p 16) x (instruction Sw 0 0 6 12) 12 4 v fixed lines.l16 (ap (λ z. Stores (sum_of z 12) 4 (x 6)) x0 ∙ ap (λ z. Stores 12 4 z) x6) refl (begins_same (shown m) (shown m1) same) refl (record { first = λ z. absurd (let q = not_zero (m 36) sel in omega arith); second = λ z. inl (omega arith); turns = λ z. absurd (omega arith); capacity = inl (omega arith); input = inl (omega arith); limit = inl (omega arith); appends = λ z. absurd (omega arith) }) in
       let c : Committed m1 (spot p 17) x = commit image place has m1 (spot p 17) x lines.l17 fixed1 x0 (subst (λ z. z < 2) (sym (little-other m 12 4 v 0 4 (inl (omega arith)))) index) (written-small m 12 4 v bytes) in
       record {
         at_length = record { count = 20; some = omega arith; few = omega arith; y = c.y; k = c.k; ran = follow s0 (follow s1 c.ran); kept = c.kept; bytes = c.bytes; index = c.index };
@@ -375,7 +392,7 @@ module _ (image : Mem) (place : ℕ → ℕ) (has : HasRoutines image place) (p 
       let m1 : Mem = written m 36 (bytes_of 1 v) in
       let fixed1 : Fixed image m1 = fixed_by m 36 1 v (inl (omega arith)) fixed in
       let s0 : Ran 1 [] (at (spot p 18) x) m (at (spot p 19) y1) m = put_step image m (spot p 18) x (instruction Sltiu 5 5 0 1) v fixed lines.l18 (ap (λ z. Puts z (sum_of (spot p 18) 4)) (tested (x 5) b x5)) refl in
-      let s1 : Ran 1 (Stored 36 1 ∷ []) (at (spot p 19) y1) m (at (spot p 20) y1) m1 = store_step image m (spot p 19) y1 (instruction Sb 0 0 5 36) 36 1 v fixed lines.l19 (ap (λ z. Stores (sum_of z 36) 1 v) x0) refl more refl (due_beside m m1 36 1 (omega arith) (inr (omega arith)) (inr (omega arith))) in
+      let s1 : Ran 1 (Stored 36 1 ∷ []) (at (spot p 19) y1) m (at (spot p 20) y1) m1 = store_step image m (spot p 19) y1 (instruction Sb 0 0 5 36) 36 1 v fixed lines.l19 (ap (λ z. Stores (sum_of z 36) 1 v) x0) refl more refl (due_beside m m1 36 1 (omega arith) (inr (omega arith)) (inr (omega arith)) (unset_above 36 1 (omega arith)) (omega arith)) in
       let c : Committed m1 (spot p 20) y1 = commit image place has m1 (spot p 20) y1 lines.l20 fixed1 x0 (subst (λ z. z < 2) (sym (little-other m 36 1 v 0 4 (inl (omega arith)))) index) (written-small m 36 1 v bytes) in
       let fixed2 : Fixed image c.k = kept_fixed image m1 c.k c.kept fixed1 in
       let link : c.y 1 ≡ back = c.regs 1 (omega arith) (omega arith) ∙ x1 in

@@ -48,8 +48,8 @@ pub given_breaks_none : {c : Context} {g : Given} {r k : ℕ} → GivenBroken c 
 given_breaks_none {c = c} {r = r} (here_given (at_shape {a = a} {i = i} f)) (given_one (initialised m s)) = not_refused r (shape_asks c.known a i) m f
 given_breaks_none (here_given (at_value e d f)) (given_one (initialised m s)) = open_one (shaped_as e s) d f
 given_breaks_none (in_value e b) (given_one (initialised m s)) = typed_breaks_none b (value_typed (shaped_as e s))
-given_breaks_none (in_elements e b) (given_one (initialised m s)) = given_breaks_none b (elements_typed (shaped_as e s))
-given_breaks_none (in_members e b) (given_one (initialised m s)) = given_breaks_none b (members_typed (shaped_as e s))
+given_breaks_none (in_elements f e b) (given_one (initialised m s)) = given_breaks_none b (elements_typed (shaped_as e s))
+given_breaks_none (in_members f e b) (given_one (initialised m s)) = given_breaks_none b (members_typed (shaped_as e s))
 given_breaks_none (first_element b) (given_elements (an_element i s)) = given_breaks_none b (given_one i)
 given_breaks_none (other_elements b) (given_elements (an_element i s)) = given_breaks_none b (given_elements s)
 given_breaks_none (first_member b) (given_members (a_member i s)) = given_breaks_none b (given_one i)

@@ -47,11 +47,14 @@ pub data GivenBroken : Context → Given → ℕ → ℕ → Type 0 where
       → shape a i ≡ one e
       → Broken c (an_expression e) r k
       → GivenBroken c (an_initialiser a at i) r k
+  -- what stands in braces, where these have the object's shape
   in_elements : {c : Context} {a b : CType} {at r k : ℕ} {i : t.Initializer} {is : t.Initializers}
+      → Meets (shape_asks c.known a i)
       → shape a i ≡ elements b is
       → GivenBroken c (some_elements b at is) r k
       → GivenBroken c (an_initialiser a at i) r k
   in_members : {c : Context} {a : CType} {n at r k : ℕ} {i : t.Initializer} {is : t.Initializers}
+      → Meets (shape_asks c.known a i)
       → shape a i ≡ members n is
       → GivenBroken c (some_members (members_of c.known n) (places c.known n) at is) r k
       → GivenBroken c (an_initialiser a at i) r k

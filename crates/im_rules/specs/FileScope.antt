@@ -1,5 +1,5 @@
 -- What stands before a place at file scope, and what is asked there (C11 6.7, 6.9).
-use Rattle.std.specs.Prelude.{ℕ, ◌+◌, ◌-◌, ℤ, pos, Bool, true, false, ◌&&◌, ◌||◌, List, [], ◌∷◌, ◌++◌, length, codes, slice_get, Option, Some, None, if◌then◌else◌, map, not}
+use Rattle.std.specs.Prelude.{ℕ, ◌+◌, ◌-◌, ℤ, pos, Bool, true, false, ◌&&◌, ◌||◌, List, [], ◌∷◌, ◌++◌, length, codes, slice_get, Option, Some, None, if◌then◌else◌, map}
 use Rattle.im_ctree.specs.im_word.Words.{Name}
 use Rattle.im_ctree.specs.Tree as t
 use Rattle.im_typed.specs.im_serve.declared.service.Service.{Service}
@@ -11,8 +11,8 @@ use Rattle.im_typed.specs.im_ctype.declared.integer.Integer.{Integer}
 use Rattle.im_typed.specs.im_ctype.declared.integer.Integer.TheVariants.{SignedChar, UnsignedChar, Short, UnsignedShort, Int, UnsignedInt}
 use Rattle.im_typed.specs.im_ctype.Types.{CType, CTypes, integer, function, no_types, more_types, Member, Structs, is_function}
 use Rattle.im_rules.specs.TypeTests.{same_name}
-use Rattle.im_rules.specs.Scopes.{Tag, struct_tag, Scopes, nothing, named, tagged, meaning, tag_meaning, at_file_scope, Entity, an_object, a_function, an_enumerator, a_typedef, static_object, Callee, a_body, no_body, enum_tag, meaning_here, a_service}
-use Rattle.im_rules.specs.Rules.{is_typedef, rule_1, rule_2, rule_2_elsewhere, rule_7, rule_8_list, rule_8_constant, rule_11, rule_12_builtin, rule_13, rule_15, rule_3, rule_4, rule_5, rule_6_absent}
+use Rattle.im_rules.specs.Scopes.{Tag, struct_tag, Scopes, nothing, named, tagged, meaning, tag_meaning, at_file_scope, Entity, an_object, a_function, an_enumerator, a_typedef, static_object, Callee, a_body, no_body, enum_tag, a_service}
+use Rattle.im_rules.specs.Rules.{is_typedef, rule_1, rule_2, rule_2_elsewhere, rule_7, rule_8_list, rule_8_constant, rule_11, rule_12_builtin, rule_13, rule_15}
 use Rattle.im_rules.specs.Outline.{Outline, outline, is_in, place_in, nearest, Nearest, parameters}
 use Rattle.im_rules.specs.Context.{Context, with_entity, behind_strings}
 use Rattle.im_rules.specs.Terms.{size_in}

@@ -1,6 +1,6 @@
 -- The 34 typing rules, each as what it asks of a node: of the types of its parts, and of the names in scope. `true` says
 -- that the rule has nothing against the node.
-use Rattle.std.specs.Prelude.{ℕ, suc, ◌+◌, ℤ, pos, Bool, true, false, not, ◌&&◌, ◌||◌, List, [], ◌∷◌, ◌++◌, length, Option, Some, None, nat_eq, nat_lt, nat_le, int_lt, int_le, is_some, if◌then◌else◌, ◌^◌, neg_ℤ, slice_index_or}
+use Rattle.std.specs.Prelude.{ℕ, suc, ◌+◌, ℤ, pos, Bool, true, false, not, ◌&&◌, ◌||◌, List, [], ◌∷◌, ◌++◌, length, Option, Some, None, nat_eq, nat_le, int_lt, int_le, is_some, if◌then◌else◌, ◌^◌, neg_ℤ, slice_index_or}
 use Rattle.std.specs.Ordering.{int_eq}
 use Rattle.im_ctree.specs.im_word.Words.{Name}
 use Rattle.im_ctree.specs.declared.operator.BinaryOp.{BinaryOp}

@@ -125,9 +125,9 @@ pub given_faulty : {c : Context} {g : Given} {r k : ℕ} → GivenBroken c g r k
     → Found (a_fault r k) (given_asked c g)
 given_faulty (here_given b) = given_here b
 given_faulty {c = c} (in_value {a = a} {i = i} p b) = value_in_found c a i p (expression_faulty b)
-given_faulty {c = c} (in_elements {a = a} {b = e} {i = i} p b) =
+given_faulty {c = c} (in_elements {a = a} {b = e} {i = i} m p b) =
     in_elements_found c a e i p (given_faulty b)
-given_faulty {c = c} (in_members {a = a} {n = n} {i = i} p b) =
+given_faulty {c = c} (in_members {a = a} {n = n} {i = i} m p b) =
     in_members_found c a n i p (given_faulty b)
 given_faulty (first_element b) = in_first (given_faulty b)
 given_faulty (other_elements b) = in_second (given_faulty b)

@@ -100,7 +100,9 @@ module _ (g : Prog) (f : Func) (known : Structs) where
     typed = (sound.0, arguments ps xs (parameters (slice_get g.funcs n)) h sound.1 (eqb-true (length xs) (count_types ps) e.0) e.1.1.0);
     shape = sound.2;
   }
-  calls (a_service Getchar) k (function r ps) xs sound h e = record { plain = ap (λ t. is_array (result_of t)) sound; typed = tt; shape = sym (ap (λ t. gives known (result_of t)) sound) }
+  calls (a_service Getchar) k (function r ps) xs sound h e =
+      let own : IsSoundValue g f known (call_of known (Some (a_function (a_service Getchar) k (function (integer Int) no_types))) xs) = record { plain = refl; typed = tt; shape = refl } in
+      subst (λ t. IsSoundValue g f known (call_of known (Some (a_function (a_service Getchar) k t)) xs)) (sym sound) own
   calls (a_service Putchar) k (function r ps) xs sound h e =
       subst (λ t. Meets (call_asks (Some (a_function (a_service Putchar) k t)) xs) → IsSoundValue g f known (call_of known (Some (a_function (a_service Putchar) k t)) xs)) (sym sound) (puts xs h) e
     where

@@ -181,7 +181,7 @@ pub record May (b : Bool) (a n : ℕ) : Type 0 where
   pub allowed : may_store b a n ≡ true
   pub due : (m k : Mem) → IsDue m k a n
 
-data_allowed : (b : Bool) (a n : ℕ) → 1048576 ≤ a → may_store b a n ≡ true
+pub data_allowed : (b : Bool) (a n : ℕ) → 1048576 ≤ a → may_store b a n ≡ true
 data_allowed b a n h =
     let t : nat_le 1048576 a ≡ true = grind (arith, nat_tests) in
     let q : nat_le 4 a ≡ true = grind (arith, nat_tests) in
@@ -200,15 +200,35 @@ low_allowed b a n h k =
     ∙ ap (λ z. (z && (nat_le (a + n) 128 || nat_le 384 a)) || b) q
     ∙ ap (λ z. (true && (z || nat_le 384 a)) || b) r
 
-pub due_beside : (m k : Mem) (a n : ℕ) → 0 < a → IsApart a n 12 → IsApart a n 32 → IsDue m k a n
-due_beside m k a n some first second = record { first = λ e. first; second = λ e. second; turns = λ e. absurd (omega arith) }
+-- n bytes from a on are none of the settings
+pub record AreUnset (a n : ℕ) : Type 0 where
+  pub capacity : IsApart a n 16
+  pub input : IsApart a n 20
+  pub limit : IsApart a n 28
 
-pub data_store : (b : Bool) (a n : ℕ) → 1048576 ≤ a → May b a n
-data_store b a n h = record { allowed = data_allowed b a n h; due = λ m k. due_beside m k a n (omega arith) (inr (omega arith)) (inr (omega arith)) }
+pub unset_above : (a n : ℕ) → 32 ≤ a → AreUnset a n
+unset_above a n h = record { capacity = inr (omega arith); input = inr (omega arith); limit = inr (omega arith) }
+
+pub unset_below : (a n : ℕ) → a + n ≤ 16 → AreUnset a n
+unset_below a n h = record { capacity = inl h; input = inl (omega arith); limit = inl (omega arith) }
+
+pub due_beside : (m k : Mem) (a n : ℕ) → 0 < a → IsApart a n 12 → IsApart a n 32 → AreUnset a n → a + n ≤ 4194304 → IsDue m k a n
+due_beside m k a n some first second unset below = record {
+  first = λ e. first;
+  second = λ e. second;
+  turns = λ e. absurd (omega arith);
+  capacity = unset.capacity;
+  input = unset.input;
+  limit = unset.limit;
+  appends = λ e. absurd (omega arith);
+}
+
+pub data_store : (b : Bool) (a n : ℕ) → 1048576 ≤ a → a + n ≤ 3145728 → May b a n
+data_store b a n h k = record { allowed = data_allowed b a n h; due = λ m z. due_beside m z a n (omega arith) (inr (omega arith)) (inr (omega arith)) (unset_above a n (omega arith)) (omega arith) }
 
 -- to STATUS and REASON
 pub low_store : (b : Bool) (a n : ℕ) → 4 ≤ a → a + n ≤ 12 → May b a n
-low_store b a n h k = record { allowed = low_allowed b a n h (omega arith); due = λ m k'. due_beside m k' a n (omega arith) (inl k) (inl (omega arith)) }
+low_store b a n h k = record { allowed = low_allowed b a n h (omega arith); due = λ m k'. due_beside m k' a n (omega arith) (inl k) (inl (omega arith)) (unset_below a n (omega arith)) (omega arith) }
 
 -- the code that stands is fetched
 pub fetches : (image m : Mem) (pc : ℕ) (x : ℕ → ℕ) (l : Line) → Fixed image m → (h : Holds image pc l) → Fetches (record { pc = pc; x = x }) m h.w l

@@ -1,7 +1,8 @@
 -- What each single step of compiled code keeps, whatever its run does: it stands in the code, stores into no code, leaves
--- INDEX and the register buffers to recovery and the checkpoint, takes back nothing that was shown, and returns behind calls.
-use Rattle.std.specs.Prelude.{◌≡◌, ◌≢◌, ◌≤◌, ◌⊎◌, ℕ, ◌+◌, Bool, true, false, ◌&&◌, ◌||◌, nat_le, nat_lt, List, [], ◌∷◌, Option, Some, None}
-use Rattle.im_mem.specs.Map.{code_start, statics_start, buffer0_start, index_at, out_len0_at, out_len1_at, out_sel_at}
+-- INDEX and the register buffers to recovery and the checkpoint, and the settings as they are, takes back nothing that was
+-- shown, stores output behind it alone, and returns behind calls.
+use Rattle.std.specs.Prelude.{◌≡◌, ◌≢◌, ◌<◌, ◌≤◌, ◌⊎◌, ℕ, ◌+◌, Bool, true, false, ◌&&◌, ◌||◌, nat_le, nat_lt, List, [], ◌∷◌, length, Option, Some, None}
+use Rattle.im_mem.specs.Map.{code_start, statics_start, buffer0_start, index_at, out_len0_at, out_cap_at, in_len_at, stack_lim_at, out_len1_at, out_sel_at, output_start}
 use Rattle.im_mem.specs.Memory.{Mem, little}
 use Rattle.im_rv.specs.declared.instr.Op.{Op}
 use Rattle.im_rv.specs.declared.instr.Op.TheVariants.{Jalr}
@@ -40,11 +41,22 @@ AreAllowed runtime (Flipped ∷ ts) = AreAllowed runtime ts
 abbrev pub IsApart : ℕ → ℕ → ℕ → Type 0
 IsApart a n word = (a + n ≤ word) ⊎ (word + 4 ≤ a)
 
--- a store that takes memory from m to k: the length of the output that holds stays, and INDEX is stored to change
+-- the byte behind what is shown, where there is room for one
+pub record IsNextByte (m : Mem) (a n : ℕ) : Type 0 where
+  pub one : n ≡ 1
+  pub next : a ≡ output_start + length (shown m)
+  pub room : length (shown m) < little m out_cap_at 4
+
+-- a store that takes memory from m to k: the length of the output that holds stays, INDEX is stored to change, the settings
+-- of the low page stay, and of the output's area the next byte alone is stored
 pub record IsDue (m k : Mem) (a n : ℕ) : Type 0 where
   pub first : m out_sel_at ≡ 0 → IsApart a n out_len0_at
   pub second : m out_sel_at ≢ 0 → IsApart a n out_len1_at
   pub turns : a ≡ index_at → little k index_at 4 ≢ little m index_at 4
+  pub capacity : IsApart a n out_cap_at
+  pub input : IsApart a n in_len_at
+  pub limit : IsApart a n stack_lim_at
+  pub appends : output_start < a + n → IsNextByte m a n
 
 abbrev pub AreDue : Mem → Mem → List Touch → Type 0
 AreDue m k [] = Unit {0}

@@ -1,8 +1,6 @@
 -- The cuts that a run passes, and the built-in functions that it calls, are among those that its lines weigh.
 use Rattle.std.proofs.Common.{◌≡◌, ℕ, zero, suc, ◌+◌, ◌≤◌, Bool, true, false, List, [], ◌∷◌, ◌++◌, Some, None, refl, ap, subst, arith}
-use Rattle.std.specs.Prelude.{if◌then◌else◌, nat_le, nat_lt, nat_abs, length, slice_get}
-use Rattle.im_num.specs.declared.kind.Kind.TheVariants.{U8}
-use Rattle.im_num.specs.Kinds.{wrap}
+use Rattle.std.specs.Prelude.{if◌then◌else◌, nat_le, slice_get}
 use Rattle.im_store.specs.Checks.{Checked, Fine, Bad}
 use Rattle.im_store.specs.Outcomes.{Outcome}
 use Rattle.im_block.specs.declared.code.Line.{Line}
@@ -10,7 +8,7 @@ use Rattle.im_block.specs.declared.code.Line.TheVariants.{Put, PutNull, Copy, Co
 use Rattle.im_block.specs.declared.code.Exit.{Exit}
 use Rattle.im_block.specs.declared.code.Exit.TheVariants.{Jump, Turn, Branch, Return}
 use Rattle.im_block.specs.declared.unit.Unit.{Unit as Code}
-use Rattle.im_block.specs.Meaning.{Setting, Event, Reads, Writes, Tests, Saves, Restores, Serves, Cuts, Frame, State, Next, Goes, Stops, on_checked, takes, found, number_of, condition, Found, Left, Site, enters, waiting, next_active, served, argument, goes_to, back, leaves, does, step_at, step, computes, reads, writes}
+use Rattle.im_block.specs.Meaning.{Setting, Event, Reads, Writes, Tests, Saves, Restores, Serves, Cuts, Frame, State, Next, Goes, Stops, on_checked, takes, found, number_of, condition, Found, Left, Site, enters, waiting, next_active, argument, goes_to, back, leaves, does, step_at, step, computes, reads, writes}
 use Rattle.im_store.specs.Objects.{Value, Unset}
 use Rattle.im_block.specs.Runs.{Over, At, goes_on, exec, Runs, start, before}
 use Rattle.im_block.specs.Shape.{line_weight, next_weight, spot_weight, after, spent}
@@ -63,9 +61,6 @@ module _ (flips : ℕ) where
         (on_few (found (slice_get f.blocks.items f.entry)) _ 0 (λ block. omega arith))
         (omega arith))
 
-    served_few : (to : ℕ) (v : Value) (rest : List Line) (input output : List ℕ) (fuel : ℕ) (s : State) → passes (served u g to v rest input output fuel s) ≤ flips
-    served_few to v rest input output fuel s = omega arith
-
     goes_few : (b fuel : ℕ) (s : State) → passes (goes_to u g b fuel s) ≤ 0
     goes_few b fuel s = on_few (found (slice_get u.functions.items s.frame.function)) _ 0 (λ f. on_few (found (slice_get f.blocks.items b)) _ 0 (λ block. omega arith))
 
@@ -108,7 +103,7 @@ module _ (flips : ℕ) where
     does_few p e (Cut cause) rest s = omega arith
     does_few p e (Call to i first count) rest s = takes_few s.fuel s.output _ 0 (λ fuel. enters_few i first count s.frame.registers (waiting u g s.frame to rest ∷ s.callers) fuel s)
     does_few p e (Serve to service from) rest s =
-        let h : passes (does u g (Serve to service from) rest s) ≤ flips = takes_few s.fuel s.output _ flips (λ fuel. on_few (argument from s.frame.registers) _ flips (λ z. served_few to _ rest _ _ fuel s)) in
+        let h : passes (does u g (Serve to service from) rest s) ≤ flips = takes_few s.fuel s.output _ flips (λ fuel. on_few (argument from s.frame.registers) _ flips (λ z. omega arith)) in
         subst (λ n. passes (does u g (Serve to service from) rest s) ≤ n) (let q : flips ≡ 0 + p.flips = omega arith in q) h
 
     step_few : (p : Linking) → p.flips ≡ flips → (rest : List Line) (s : State) → passes (step_at u g rest s) ≤ next_weight (cuts p) rest s.frame.spot.exit

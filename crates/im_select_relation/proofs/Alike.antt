@@ -1,11 +1,9 @@
 -- A step of placed code reads registers that live alone: where those have the same values, two states step alike.
-use Rattle.std.proofs.Common.{◌≡◌, ◌≢◌, ℕ, zero, suc, ◌+◌, ◌-◌, ◌<◌, inl, inr, Bool, true, false, cond, List, [], ◌∷◌, Some, None, sym, ap, ◌∙◌, subst, refl, arith}
-use Rattle.std.specs.Prelude.{◌==◌, ◌&&◌, ◌||◌, not, nat_le, nat_lt, nat_abs, length, slice_get, pos}
+use Rattle.std.proofs.Common.{◌≡◌, ◌≢◌, ℕ, zero, suc, ◌+◌, ◌-◌, inl, inr, Bool, true, false, cond, List, [], ◌∷◌, Some, None, sym, ap, ◌∙◌, subst, refl, arith}
+use Rattle.std.specs.Prelude.{◌==◌, ◌&&◌, ◌||◌, not, nat_le, nat_lt, slice_get, pos}
 use Rattle.std.proofs.lemmas.Bool.{or_right}
 use Rattle.std.proofs.lemmas.Bool.Decides.{nat_tests}
 use Rattle.im_num.specs.declared.kind.Kind.{Kind}
-use Rattle.im_num.specs.declared.kind.Kind.TheVariants.{U8}
-use Rattle.im_num.specs.Kinds.{wrap}
 use Rattle.im_store.specs.Checks.{Checked, Fine, Bad, then_}
 use Rattle.im_store.specs.Access.{read_cell, write_cell}
 use Rattle.im_store.specs.Objects.{Value, Number, Null, Unset}

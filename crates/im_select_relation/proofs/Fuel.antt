@@ -1,6 +1,6 @@
 -- More fuel is wanted only where none is left.
 use Rattle.std.proofs.Common.{◌≡◌, ℕ, zero, suc, Bool, true, false, cond, List, [], ◌∷◌, refl}
-use Rattle.std.specs.Prelude.{slice_get, nat_le, nat_lt, length, Some, None}
+use Rattle.std.specs.Prelude.{slice_get, nat_le, Some, None}
 use Rattle.im_store.specs.Checks.{Checked, Fine, Bad}
 use Rattle.im_store.specs.Objects.{Value, Unset}
 use Rattle.im_store.specs.Outcomes.{Undef, More, End}

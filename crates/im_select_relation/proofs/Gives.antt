@@ -167,7 +167,7 @@ writes_after p u g at0 s c m r from w base imm next k site o rest no5 size b h c
     let at : sum_of (b.y base) imm ≡ address p ob + i = b.sum ∙ found_at p l.at k w rm q.lands in
     let k' : Mem = written m (address p ob + i) (bytes_of (kind_size k) (b.y from)) in
     let top : address p ob + i + kind_size k ≤ 3145728 = (let z = rm.high in omega arith) in
-    let step = stores p.image m next b.y (storing (store_op k) base from imm) (address p ob + i) (kind_size k) (b.y from) r.fixed h (store_row k next (b.y base) (b.y from) imm ∙ ap (λ a. Stores a (kind_size k) (b.y from)) at) rm.place (output_written m (address p ob + i) (kind_size k) (b.y from) rm.low top) (data_store (in_runtime next) (address p ob + i) (kind_size k) rm.low) in
+    let step = stores p.image m next b.y (storing (store_op k) base from imm) (address p ob + i) (kind_size k) (b.y from) r.fixed h (store_row k next (b.y base) (b.y from) imm ∙ ap (λ a. Stores a (kind_size k) (b.y from)) at) rm.place (output_written m (address p ob + i) (kind_size k) (b.y from) rm.low top) (data_store (in_runtime next) (address p ob + i) (kind_size k) rm.low top) in
     let t : Touches p (Writes site s.frame.active ob i ∷ []) (Stored (address p ob + i) (kind_size k) ∷ []) = subst (λ z. Touches p (Writes site s.frame.active ob i ∷ []) (Stored (address p ob + i) z ∷ [])) size (Writing site s.frame.active ob i [] [] Nothing) in
     let value : Means p q.taken (back_word k (b.y from)) = means_at p q.taken q.taken (back_word k (c.x from)) _ refl (ap (back_word k) (b.kept from no5)) q.value in
     subst (λ (z : Store). Advanced p u g s.fuel 3 c m (record s { frame = with_rest s.frame rest; store = z }) (Writes site s.frame.active ob i ∷ [])) (sym q.write.is)

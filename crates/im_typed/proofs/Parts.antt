@@ -9,6 +9,7 @@ use Rattle.im_store.specs.Objects.{Value, Number, Store}
 use Rattle.im_store.specs.Access.{taken, read_cells, write_cells, at_place}
 use Rattle.im_store.specs.Numbers.{apply}
 use Rattle.im_serve.specs.declared.service.Service.{Service}
+use Rattle.im_serve.specs.Services.{serve}
 use Rattle.im_serve.proofs.Rows.{law_of}
 use Rattle.im_typed.specs.declared.expression.Change.{Change}
 use Rattle.im_typed.specs.declared.expression.Change.TheVariants.{Number as NumberBy, Move as PointerBy}
@@ -70,7 +71,7 @@ rel-update h c old at g =
 pub rel-served : {k b : ℕ} (capacity : ℕ) (service : Service) (z : ℤ) → Related k b (served capacity service z) (served capacity service z)
 rel-served capacity service z =
     rel-bind rel-look (λ w.
-    rel-bind (rel-change (after_service capacity service z) (record { grown = λ w. (law_of service).puts capacity z w.input w.output })) (λ _. rel-give _))
+    rel-bind (rel-change (after_service capacity service z) (record { grown = λ w. (law_of service).puts capacity z w.input w.output })) (λ _. rel-give (Number (serve service capacity z w.input w.output).value ∷ [])))
 
 -- statements
 

@@ -1,42 +1,8 @@
-use Rattle.std.proofs.Common.{◌+◌, Some, None, List, drop, refl, sym, subst}
-use Rattle.std.proofs.lemmas.List.{drop_all}
-use Rattle.im_ctree.specs.Shape.{external_of, externals_of, tree_of}
-use Rattle.im_ctree.specs.declared.unit.External.{External}
-use Rattle.im_check_counts.specs.Derivations.{Known, derived_by, derived_of, known_of, known_behind, IsWalked}
-use Rattle.im_check_counts.proofs.Over.{next}
-use Rattle.im_check_counts.proofs.Derived.{walked_none, walked_front, walked_next, deep_of, nothing_known}
+use Rattle.im_ctree.specs.Shape.{tree_of}
+use Rattle.im_check_counts.specs.Derivations.{known_of}
+use Rattle.im_check_counts.proofs.Derived.{deep_of}
 use Rattle.im_check_counts.proofs.derivations.first_deep.Goals as goal
-
-pub loop-external-init : goal.loop-external-init
-loop-external-init c = λ new found h. rw (nothing_known c.new-known.result c.new-known.ensures) at h
-
-pub returns-in-Some : goal.returns-in-Some
-returns-in-Some c =
-    let xs = c.args.tree.now.externals.items in
-    let i = c.loop-external.external-index in
-    let x = c.external-item.result in
-    let known = known_of c.loop-external.known in
-    let at = next xs i x c.loop-external-test.true c.external-item.is in
-    let new = known_of c.in_external.new.known in
-    let whole = c.loop-external.invariant new (Some c.in-Some.x) (subst (λ (z : List External). IsWalked known (derived_of known (externals_of z)) new (Some c.in-Some.x)) (sym at)
-    (walked_front known (derived_by known (external_of x)) (derived_of (known_behind known (derived_by known (external_of x))) (externals_of (drop (i + 1) xs))) new new c.in-Some.x (rw c.in-Some.is at c.in_ok-in_external.ensures))) in
-    deep_of (tree_of c.args.tree.now) new (Some c.in-Some.x) whole
-
-pub loop-external-preserved : goal.loop-external-preserved
-loop-external-preserved c = λ new found h.
-    let xs = c.args.tree.now.externals.items in
-    let i = c.loop-external.external-index in
-    let x = c.external-item.result in
-    let known = known_of c.loop-external.known in
-    let at = next xs i x c.loop-external-test.true c.external-item.is in
-    let walked = rw c.in-None.is at c.in_ok-in_external.ensures in
-    let rest = subst (λ (k : Known). IsWalked k (derived_of k (externals_of (drop (i + 1) xs))) new found) walked.1 h in
-    c.loop-external.invariant new found (subst (λ (z : List External). IsWalked known (derived_of known (externals_of z)) new found) (sym at)
-    (walked_next known (derived_by known (external_of x)) (derived_of (known_behind known (derived_by known (external_of x))) (externals_of (drop (i + 1) xs))) (known_behind known (derived_by known (external_of x))) new found (walked.0, refl) rest))
 
 pub returns : goal.returns
 returns c =
-    let xs = c.args.tree.now.externals.items in
-    let known = known_of c.loop-external.known in
-    let whole = c.loop-external.invariant known None (subst (λ (z : List External). IsWalked known (derived_of known (externals_of z)) known None) (sym (drop_all c.loop-external.external-index xs c.loop-external-test.false)) (walked_none known)) in
-    deep_of (tree_of c.args.tree.now) known None whole
+    deep_of (tree_of c.args.tree.now) c.new-known.result (known_of c.in_externals.new.known) c.in_externals.result c.new-known.ensures (rw c.deref.ensures.value at c.in_externals.ensures)

@@ -17,7 +17,7 @@ returns-in-Some c =
     let at = next ds i d c.loop-d-test.true c.d-item.is in
     let new = known_of c.in_declarator.new.known in
     c.loop-d.invariant new (Some c.in-Some.x) (subst (λ (z : List InitDeclarator). IsWalked known (derived_in base (init_declarators_of z)) new (Some c.in-Some.x)) (sym at)
-    (walked_front known (derived_from base (declarator_of d.declarator) ∷ []) (derived_in base (init_declarators_of (drop (i + 1) ds))) new new c.in-Some.x (rw c.in-Some.is at c.in_ok-in_declarator.ensures)))
+    (walked_front known (derived_from base (declarator_of d.declarator) ∷ []) (derived_in base (init_declarators_of (drop (i + 1) ds))) new new c.in-Some.x (rw c.in-Some.is at c.in_ok-x.ensures)))
 
 pub loop-d-preserved : goal.loop-d-preserved
 loop-d-preserved c = λ new found h.
@@ -28,7 +28,7 @@ loop-d-preserved c = λ new found h.
     let known = known_of c.loop-d.known in
     let at = next ds i d c.loop-d-test.true c.d-item.is in
     c.loop-d.invariant new found (subst (λ (z : List InitDeclarator). IsWalked known (derived_in base (init_declarators_of z)) new found) (sym at)
-    (walked_next known (derived_from base (declarator_of d.declarator) ∷ []) (derived_in base (init_declarators_of (drop (i + 1) ds))) (known_of c.in_declarator.new.known) new found (rw c.in-None.is at c.in_ok-in_declarator.ensures) h))
+    (walked_next known (derived_from base (declarator_of d.declarator) ∷ []) (derived_in base (init_declarators_of (drop (i + 1) ds))) (known_of c.in_declarator.new.known) new found (rw c.in-None.is at c.in_ok-x.ensures) h))
 
 pub returns : goal.returns
 returns c =

@@ -6,4 +6,4 @@ pub returns-in-Declaration : goal.returns-in-Declaration
 returns-in-Declaration c = rw c.in-Declaration.is c.in_declaration.ensures
 
 pub returns-in-Function : goal.returns-in-Function
-returns-in-Function c = rw c.in-Function.is (walked_none (known_of c.args.known.old))
+returns-in-Function c = rw c.in-Function.is (walked_none (known_of c.args.known.now))

@@ -1,7 +1,13 @@
-use Rattle.std.proofs.Common.{arith}
-use Rattle.std.proofs.lemmas.Bool.{lt-ltb}
-use Rattle.im_eval_machine.proofs.Streaming.{byte-put}
+use Rattle.std.proofs.Common.{arith, refl}
+use Rattle.std.proofs.lemmas.Bool.{lt-ltb, le-ltb}
+use Rattle.im_eval_machine.proofs.Streaming.{byte-put, no-room}
 use Rattle.im_eval_machine.proofs.streams.put_byte.Goals as goal
+
+pub returns-then-len-capacity : goal.returns-then-len-capacity
+returns-then-len-capacity c = λ z same.
+    let full = c.if-len-capacity.true in
+    let len = c.len.ensures in
+    no-room z c.args.machine.now c.args.capacity c.args.byte _ same (le-ltb _ _ (omega arith)) refl
 
 pub returns : goal.returns
 returns c = λ z same.
