@@ -4,8 +4,7 @@ use Rattle.std.specs.Prelude.{◌⊎◌, ◌&&◌, ℤ, if◌then◌else◌}
 use Rattle.im_typed.specs.Program.{Expr}
 use Rattle.im_rules.specs.Constants.{constant_value, evaluated, is_constant, on_one, on_both}
 use Rattle.im_check_constancy.specs.declared.constancy.Constancy.{Constancy}
-use Rattle.im_store.specs.Applied.{number_in}
-use Rattle.im_check_constancy.specs.Told.{Told, constant_in}
+use Rattle.im_check_constancy.specs.Told.{Told, constant_in, number_in}
 
 pub told-value : (k : Constancy) (e : Expr) → Told k e → constant_value e ≡ constant_in k
 told-value k e h =

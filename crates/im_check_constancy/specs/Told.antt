@@ -1,12 +1,16 @@
 -- What the code keeps of an expression as a constant expression.
 use Rattle.std.specs.Prelude.{◌≡◌, false, ℤ, pos, Option, Some, None, if◌then◌else◌}
 use Rattle.std.specs.Ordering.{int_eq}
-use Rattle.im_store.specs.Applied.{number_in}
+use Rattle.im_store.specs.declared.number.Number.{Number}
 use Rattle.im_store.specs.declared.operators.Comparison.{Comparison}
 use Rattle.im_store.specs.Numbers.{compares}
 use Rattle.im_typed.specs.Program.{Expr}
 use Rattle.im_rules.specs.Constants.{is_constant, evaluated, truth}
 use Rattle.im_check_constancy.specs.declared.constancy.Constancy.{Constancy}
+
+abbrev pub number_in : Option Number → Option ℤ
+number_in None = None
+number_in (Some z) = Some z.value
 
 abbrev pub negated : ℤ → ℤ
 negated z = truth (int_eq z (pos 0))

@@ -4,8 +4,7 @@ ghost use Rattle.std.specs.Ordering.{int_eq};
 ghost use Rattle.im_num.specs.Kinds.{wrap};
 ghost use Rattle.im_store.specs.Numbers.{apply, apply_one, compares};
 ghost use Rattle.im_rules.specs.Constants as c;
-ghost use Rattle.im_store.specs.Applied.{number_in};
-ghost use Rattle.im_check_constancy.specs.Told.{negated, compared_as};
+ghost use Rattle.im_check_constancy.specs.Told.{number_in, negated, compared_as};
 
 use im_num::Kind;
 use im_store::{

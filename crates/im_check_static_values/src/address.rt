@@ -4,7 +4,7 @@ ghost use Rattle.std.specs.Option.{option_map};
 ghost use Rattle.im_ctype.specs.Table.{Table};
 ghost use Rattle.im_typed.specs.ProgramOf as q;
 ghost use Rattle.im_check_items.specs.im_rules.StaticValues as v;
-ghost use Rattle.im_store.specs.Applied.{number_in};
+ghost use Rattle.im_check_constancy.specs.Told.{number_in};
 ghost use Rattle.im_check_items.specs.im_rules.Constants.{constant_value};
 ghost use Rattle.im_check_static_values.specs.Spots.{spot_in};
 

@@ -4,8 +4,7 @@ ghost use Rattle.im_ctype.specs.Table.{Table};
 ghost use Rattle.im_typed.specs.Program as p;
 ghost use Rattle.im_typed.specs.ProgramOf.{expr_of};
 ghost use Rattle.im_check_items.specs.im_rules.Constants as c;
-ghost use Rattle.im_store.specs.Applied.{number_in};
-ghost use Rattle.im_check_constancy.specs.Told.{Told, variable as no_constant};
+ghost use Rattle.im_check_constancy.specs.Told.{Told, number_in, variable as no_constant};
 
 use im_check_constancy::{
     Annotated, binary, choice, comparison, conjunction, conversion, disjunction, negation, number,
