@@ -6,7 +6,7 @@ ghost use Rattle.im_ctree.specs.declared.specifier.Specifiers.{out-Specifiers};
 ghost use Rattle.im_ctree_parts.specs.Lists.{list_from, specifier_in};
 ghost use Rattle.im_check_locals.specs.Tags.{is_struct_tag, lone, IsOrdinary, IsAlone};
 
-use im_ctree::{Declaration, Name, Specifier, SpecifierKind};
+use im_ctree::{Declaration, InitDeclarator, Name, Specifier, SpecifierKind};
 
 /// A struct's tag.
 #[derive(Clone, Copy)]
@@ -40,14 +40,21 @@ fn alone_among(specifiers: &[Specifier]) -> Option<LoneTag<'_>>
     struct_tag(&specifiers[0])
 }
 
+fn lone_tag<'a>(specifiers: &'a [Specifier], declarators: &[InitDeclarator]) -> Option<LoneTag<'a>>
+    ensures { let xs = list_from specifiers.now in let ds = init_declarators_of declarators.now in
+        MatchOption result (IsOrdinary xs ds) (λ m. IsAlone m.at m.tag.now.items xs ds) }
+{
+    if declarators.len() != 0 {
+        return None;
+    }
+    alone_among(specifiers)
+}
+
 /// The tag of a declaration that is `struct s;` alone (C11 6.7.2.3p7).
 pub(crate) fn tag_alone(d: &Declaration) -> Option<LoneTag<'_>>
     ensures { let xs = list_from (out-Specifiers d.now.specifiers).items.items in
         let ds = init_declarators_of d.now.declarators.items in
         MatchOption result (IsOrdinary xs ds) (λ m. IsAlone m.at m.tag.now.items xs ds) }
 {
-    if d.declarators.len() != 0 {
-        return None;
-    }
-    alone_among(&d.specifiers.items)
+    lone_tag(&d.specifiers.items, &d.declarators)
 }

@@ -89,10 +89,10 @@ fn called(alloc: Global, ty: Type, callee: Callee, arguments: Vec<Expr>) -> Resu
         Callee::Body(n) => Ok(call(ty, n, arguments)),
         Callee::Service(service) => {
             if arguments.is_empty() {
-                return Ok(of_variable(ty, Expr::Serve(service, None)));
+                return Ok(of_variable(ty, Expr::Serve(service)));
             }
             let operand = Box::new(alloc, first_of(arguments))?;
-            Ok(of_variable(ty, Expr::Serve(service, Some(operand))))
+            Ok(of_variable(ty, Expr::ServeWith(service, operand)))
         }
         Callee::NoBody => Ok(of_variable(ty, Expr::Null)),
     }

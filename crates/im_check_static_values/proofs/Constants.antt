@@ -31,5 +31,5 @@ number_or_place types size (re.Update' b a change c e) h = refl
 number_or_place types size (re.Increment' b a change old) h = refl
 number_or_place types size (re.Part' from x b e) h = refl
 number_or_place types size (re.Call' f shape es) h = refl
-number_or_place types size (re.Serve' service re.None') h = refl
-number_or_place types size (re.Serve' service (re.Some' b e)) h = refl
+number_or_place types size (re.Serve service) h = refl
+number_or_place types size (re.ServeWith' service b e) h = refl

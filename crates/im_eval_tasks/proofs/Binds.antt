@@ -4,7 +4,7 @@ use Rattle.im_store.specs.Checks.{Checked, Fine, Bad, then_}
 use Rattle.im_store.specs.Objects as o
 use Rattle.im_store.specs.Objects.{Store}
 use Rattle.im_typed.specs.Runs.{State, Answer, Gives, Stops, Run, goes_on, ◌>>=◌, give, checked, in_store}
-use Rattle.im_typed.specs.Values.{Values, scalar, used, number_of}
+use Rattle.im_typed.specs.Values.{Values, scalar, number, used, number_of}
 
 pub assoc : {A B C : Type 0} (r : Answer A) (f : A → Run B) (k : B → Run C) → goes_on (goes_on r f) k ≡ goes_on r (λ a s. goes_on (f a s) k)
 assoc (Gives a s) f k = refl
@@ -45,3 +45,19 @@ switch_goes r f g k h =
     alike r _ _ (λ vs s. assoc (used vs s) (λ v. checked (number_of v) >>= g) k)
     ∙ sym (strict-number r f (λ v s. goes_on (goes_on (checked (number_of v) s) g) k) k
     (λ v s. ap (λ x. goes_on x k) (alike (checked (number_of v) s) f g h)))
+
+-- a value that is made of what a check gives
+pub numbered : {A C : Type 0} (r : Checked A) (f : A → o.Value) (s : State) (k : Values → Run C)
+    → goes_on (goes_on (checked r s) (λ z. scalar (f z))) k ≡ goes_on (goes_on (checked (then_ r (λ z. Fine (f z))) s) scalar) k
+numbered (Fine a) f s k = refl
+numbered (Bad why) f s k = refl
+
+-- a number for which an operator gives another one, or none
+pub computes : {C : Type 0} (r : Checked ℤ) (f : ℤ → Checked ℤ) (s : State) (k : Values → Run C)
+    → goes_on (goes_on (checked r s) (λ y. checked (f y) >>= number)) k ≡ goes_on (goes_on (checked (then_ r (λ y. then_ (f y) (λ z. Fine (o.Number z)))) s) scalar) k
+computes (Fine a) f s k = numbered (f a) (λ z. o.Number z) s k
+computes (Bad why) f s k = refl
+
+-- what is done with a value that is used
+pub used-goes : {B C : Type 0} (r : Answer Values) (f : o.Value → Run B) (k : B → Run C) → goes_on r (λ vs s. goes_on (goes_on (used vs s) f) k) ≡ goes_on (goes_on (goes_on r used) f) k
+used-goes r f k = sym (ap (λ x. goes_on x k) (assoc r used f) ∙ assoc r (λ vs s. goes_on (used vs s) f) k)

@@ -1,3 +1,4 @@
+pub mod Begins
 pub mod Binds
 pub mod Bounds
 pub mod Expressions

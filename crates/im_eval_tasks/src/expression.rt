@@ -57,7 +57,7 @@ pub fn begin<'p>(alloc: Global, expr: &'p Expr) -> Next<'p>
     match expr {
         Expr::Number(_, value) => Next::Just(Now::Value(Found::One(Value::Number(small(*value))))),
         Expr::Null => Next::Just(Now::Value(Found::One(Value::Null))),
-        Expr::Serve(service, None) => Next::Just(Now::Serve(*service)),
+        Expr::Serve(service) => Next::Just(Now::Serve(*service)),
         Expr::Call(function, arguments) => Next::Just(Now::Arguments(Call {
             function: *function,
             ready: Vec::new(alloc),
@@ -90,7 +90,7 @@ pub fn begin<'p>(alloc: Global, expr: &'p Expr) -> Next<'p>
             Now::Evaluate(operand),
             Task::Operand(Operand::Last(Last::Not)),
         ),
-        Expr::Serve(service, Some(operand)) => Next::Before(
+        Expr::ServeWith(service, operand) => Next::Before(
             Now::Evaluate(operand),
             Task::Operand(Operand::Serve(*service)),
         ),

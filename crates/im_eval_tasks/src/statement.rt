@@ -45,8 +45,10 @@ pub fn begin_statement<'p>(statement: &'p Stmt) -> Next<'p>
             };
             Next::Before(Now::Evaluate(value), Task::Use(Use::Enter(switch)))
         }
-        Stmt::Return(Some(value)) => Next::Before(Now::Evaluate(value), Task::Use(Use::Return)),
-        Stmt::Return(None) => Next::Just(Now::Ended(Ended::Returned(Found::Nothing))),
+        Stmt::Return(result) => match result {
+            Some(value) => Next::Before(Now::Evaluate(value), Task::Use(Use::Return)),
+            None => Next::Just(Now::Ended(Ended::Returned(Found::Nothing))),
+        },
         Stmt::Break => Next::Just(Now::Ended(Ended::Broke)),
         Stmt::Continue => Next::Just(Now::Ended(Ended::Continued)),
         Stmt::Forget(local) => Next::Just(Now::Forget(*local)),

@@ -34,14 +34,14 @@ use Rattle.im_cut_gap.specs.Remaining.{cost_on}
 use Rattle.im_select.specs.declared.branching.Test.{Test}
 use Rattle.im_select.specs.declared.distance.Distance.{Distance as Reach}
 use Rattle.im_select.specs.declared.distance.Distance.TheVariants.{Near, Far}
-use Rattle.im_select.specs.Emitted.{high_of, low_of, constant_by, constant_code, adds_by, adds_code, entry_label, labelled, call_code, cut_code, line_code, lines_code, leave_code, result_code, onward_code, test_line, test_code, test_or, taken_test, own_lines, is_next, branch_code, exit_code, is_empty, taking_code, block_code, laid_order, Laying, next_label, found_code, laid_block, laid_code, blocks_code, enter_code, prologue_code, function_code}
+use Rattle.im_select.specs.Emitted.{high_of, low_of, constant_by, constant_code, adds_by, adds_code, entry_label, labelled, call_code, cut_code, passed_by, way_code, lines_code, behind_each, leave_code, result_code, onward_code, test_line, test_code, test_or, taken_test, own_lines, is_next, branch_code, exit_code, is_empty, taking_code, block_code, laid_order, Laying, next_label, found_code, laid_block, laid_code, blocks_code, enter_code, prologue_code, function_code}
 use Rattle.im_select.specs.Places.{CallsBelow}
-use Rattle.im_select.proofs.Counting.{paid}
+use Rattle.im_select.proofs.Counting.{way_few}
 use Rattle.im_select.proofs.Taking.{IsTaken, Nothing, Comparing, takes, all_left}
 use Rattle.im_saved_lines.specs.Laws.{laid}
 use Rattle.im_saved_lines.proofs.Scanning.{both, same_of, same_is, IsPlain}
 use Rattle.im_saved_lines.proofs.Plain.{adds_plain}
-use Rattle.im_saved_lines.proofs.Working.{IsWork, work_plain}
+use Rattle.im_saved_lines.proofs.Working.{IsWork, way_plain}
 use Rattle.im_saved_lines.proofs.Order.{some_there, AreBelow, order_below}
 use Rattle.im_saved_lines.proofs.Selected.{next_is, test_way}
 use Rattle.im_gap_ranked.proofs.Ranks.{greater, greater_within, After, cut_rank, rank_by, Goes, scan, IsRankedLine, AreRanked, AreWithin, scan_append, scan_labelled, ranked_append, ranked_labelled, within_append, within_labelled, plain_ranked, plain_rank, plain_within}
@@ -103,13 +103,9 @@ plain_one : (at : ℕ → ℕ) (x : CodeLine) (after : After) → IsPlain x → 
 plain_one at x after h = (plain_ranked at (x ∷ []) after (h, tt)).0
 
 -- a line has at most its words
-line_few : (places : Name → ℕ) (m : ℕ) (line : Line) → (IsCut line → ⊥) → length (line_code places m line) ≤ with_cut line
-line_few places m (Cut cause) uncut = absurd (uncut tt)
-line_few places m line uncut =
-    let p = paid places (λ j. m) 0 (line ∷ []) tt in
-    let own = p.own (λ e. e) in
-    let e = length-append (line_code places m line) [] in
-    omega arith
+line_few : (places : Name → ℕ) (m : ℕ) (passed before : Option ℕ) (line : Line) → (IsCut line → ⊥) → length (way_code places m passed before line) ≤ with_cut line
+line_few places m passed before (Cut cause) uncut = absurd (uncut tt)
+line_few places m passed before line uncut = let q = way_few places m passed before line (λ e. e) in omega arith
 
 -- ---- what an exit takes of its block is neither a cut nor a call
 
@@ -252,55 +248,56 @@ module _ (at : ℕ → ℕ) (places : Name → ℕ) (m : ℕ → ℕ → ℕ) (o
 
   -- ---- lines
 
-  starts : (n : ℕ → ℕ) (j : ℕ) (lines : List Line) (behind : After) → StartsWithCut lines → (scan at (lines_code places n j lines) behind).next ≡ cut_rank
-  starts n j [] behind s = absurd s
-  starts n j (Cut cause ∷ lines) behind s = refl
-  starts n j (line ∷ lines) behind s = absurd s
+  starts : (n : ℕ → ℕ) (needed : ℕ → ℕ → Bool) (before : Option ℕ) (j : ℕ) (lines : List Line) (behind : After) → StartsWithCut lines → (scan at (lines_code places n needed before j lines) behind).next ≡ cut_rank
+  starts n needed before j [] behind s = absurd s
+  starts n needed before j (Cut cause ∷ lines) behind s = refl
+  starts n needed before j (line ∷ lines) behind s = absurd s
 
-  work_most : (n : ℕ → ℕ) (j : ℕ) (line : Line) (lines : List Line) (rest : ℕ) (behind : After) → IsWork line → (IsCut line → ⊥) → (scan at (lines_code places n (suc j) lines) behind).next ≤ block_base + rest → (scan at (line_code places (n j) line ++ lines_code places n (suc j) lines) behind).next ≤ block_base + (with_cut line + rest)
-  work_most n j line lines rest behind work uncut h =
-      let e = ap (λ (z : After). z.next) (scan_append at (line_code places (n j) line) (lines_code places n (suc j) lines) behind) in
-      let p = plain_rank at (line_code places (n j) line) (scan at (lines_code places n (suc j) lines) behind) (work_plain places (n j) line work) in
-      let few = line_few places (n j) line uncut in
+  work_most : (n : ℕ → ℕ) (needed : ℕ → ℕ → Bool) (passed before : Option ℕ) (j : ℕ) (line : Line) (lines : List Line) (rest : ℕ) (behind : After) → IsWork line → (IsCut line → ⊥) → (scan at (lines_code places n needed passed (suc j) lines) behind).next ≤ block_base + rest → (scan at (way_code places (n j) passed before line ++ lines_code places n needed passed (suc j) lines) behind).next ≤ block_base + (with_cut line + rest)
+  work_most n needed passed before j line lines rest behind work uncut h =
+      let e = ap (λ (z : After). z.next) (scan_append at (way_code places (n j) passed before line) (lines_code places n needed passed (suc j) lines) behind) in
+      let p = plain_rank at (way_code places (n j) passed before line) (scan at (lines_code places n needed passed (suc j) lines) behind) (way_plain places (n j) passed before line work) in
+      let few = line_few places (n j) passed before line uncut in
       omega arith
 
-  lines_most : (n : ℕ → ℕ) (j : ℕ) (lines tail : List Line) (exit : Exit) (behind : After) → behind.next ≤ block_base + cost_on left tail exit → All (CallsBelow functions) lines → (scan at (lines_code places n j lines) behind).next ≤ block_base + cost_on left (lines ++ tail) exit
-  lines_most n j [] tail exit behind h c = h
-  lines_most n j (Cut cause ∷ lines) tail exit behind h c = omega arith
-  lines_most n j (Call to i start given ∷ lines) tail exit behind h c = let e = callees.entries i (All-head (CallsBelow functions) (Call to i start given) lines c) in omega arith
-  lines_most n j (Serve to Getchar None ∷ lines) tail exit behind h c = let e = callees.gets in omega arith
-  lines_most n j (Serve to Getchar (Some from) ∷ lines) tail exit behind h c = let e = callees.gets in omega arith
-  lines_most n j (Serve to Putchar None ∷ lines) tail exit behind h c = let e = callees.puts in omega arith
-  lines_most n j (Serve to Putchar (Some from) ∷ lines) tail exit behind h c = let e = callees.puts in omega arith
-  lines_most n j (line ∷ lines) tail exit behind h c =
-      work_most n j line lines (cost_on left (lines ++ tail) exit) behind tt (λ z. z)
-      (lines_most n (suc j) lines tail exit behind h (All-tail (CallsBelow functions) line lines c))
+  lines_most : (n : ℕ → ℕ) (needed : ℕ → ℕ → Bool) (before : Option ℕ) (j : ℕ) (lines tail : List Line) (exit : Exit) (behind : After) → behind.next ≤ block_base + cost_on left tail exit → All (CallsBelow functions) lines → (scan at (lines_code places n needed before j lines) behind).next ≤ block_base + cost_on left (lines ++ tail) exit
+  lines_most n needed before j [] tail exit behind h c = h
+  lines_most n needed before j (Cut cause ∷ lines) tail exit behind h c = omega arith
+  lines_most n needed before j (Call to i start given ∷ lines) tail exit behind h c = let e = callees.entries i (All-head (CallsBelow functions) (Call to i start given) lines c) in omega arith
+  lines_most n needed before j (Serve to Getchar None ∷ lines) tail exit behind h c = let e = callees.gets in omega arith
+  lines_most n needed before j (Serve to Getchar (Some from) ∷ lines) tail exit behind h c = let e = callees.gets in omega arith
+  lines_most n needed before j (Serve to Putchar None ∷ lines) tail exit behind h c = let e = callees.puts in omega arith
+  lines_most n needed before j (Serve to Putchar (Some from) ∷ lines) tail exit behind h c = let e = callees.puts in omega arith
+  lines_most n needed before j (line ∷ lines) tail exit behind h c =
+      work_most n needed (passed_by (needed (suc j)) line lines) before j line lines (cost_on left (lines ++ tail) exit) behind tt (λ z. z)
+      (lines_most n needed (passed_by (needed (suc j)) line lines) (suc j) lines tail exit behind h (All-tail (CallsBelow functions) line lines c))
 
-  lines_ranked : (n : ℕ → ℕ) (j : ℕ) (lines : List Line) (behind : After) → ((j : ℕ) → (4 ≤ n j) × (n j ≤ 31)) → CutAfterCalls lines → AreRanked at (lines_code places n j lines) behind
-  lines_ranked n j [] behind o k = tt
-  lines_ranked n j (Cut cause ∷ lines) behind o k = ranked_append at (cut_code (n j) cause) (lines_code places n (suc j) lines) behind (cut_ranked (n j) cause (scan at (lines_code places n (suc j) lines) behind) (o j)) (lines_ranked n (suc j) lines behind o k)
-  lines_ranked n j (Call to i start given ∷ lines) behind o k =
-      ranked_append at (call_code 1 (entry_label i)) (lines_code places n (suc j) lines) behind
-      (jump_ranked 1 (entry_label i) (scan at (lines_code places n (suc j) lines) behind) (λ e. absurd (omega arith)) (omega arith) (λ e. (let s = starts n (suc j) lines behind k.0 in omega arith)))
-      (lines_ranked n (suc j) lines behind o k.1)
-  lines_ranked n j (Serve to Getchar None ∷ lines) behind o k =
-      ranked_append at (call_code 1 getchar_label) (lines_code places n (suc j) lines) behind
-      (jump_ranked 1 getchar_label (scan at (lines_code places n (suc j) lines) behind) (λ e. absurd (omega arith)) (omega arith) (λ e. (let s = starts n (suc j) lines behind k.0 in omega arith)))
-      (lines_ranked n (suc j) lines behind o k.1)
-  lines_ranked n j (Serve to Getchar (Some from) ∷ lines) behind o k =
-      ranked_append at (call_code 1 getchar_label) (lines_code places n (suc j) lines) behind
-      (jump_ranked 1 getchar_label (scan at (lines_code places n (suc j) lines) behind) (λ e. absurd (omega arith)) (omega arith) (λ e. (let s = starts n (suc j) lines behind k.0 in omega arith)))
-      (lines_ranked n (suc j) lines behind o k.1)
-  lines_ranked n j (Serve to Putchar None ∷ lines) behind o k =
-      ranked_append at (call_code 1 putchar_label) (lines_code places n (suc j) lines) behind
-      (jump_ranked 1 putchar_label (scan at (lines_code places n (suc j) lines) behind) (λ e. absurd (omega arith)) (omega arith) (λ e. (let s = starts n (suc j) lines behind k.0 in omega arith)))
-      (lines_ranked n (suc j) lines behind o k.1)
-  lines_ranked n j (Serve to Putchar (Some from) ∷ lines) behind o k =
-      ranked_append at (call_code 1 putchar_label) (lines_code places n (suc j) lines) behind
-      (jump_ranked 1 putchar_label (scan at (lines_code places n (suc j) lines) behind) (λ e. absurd (omega arith)) (omega arith) (λ e. (let s = starts n (suc j) lines behind k.0 in omega arith)))
-      (lines_ranked n (suc j) lines behind o k.1)
-  lines_ranked n j (line ∷ lines) behind o k =
-      ranked_append at (line_code places (n j) line) (lines_code places n (suc j) lines) behind (plain_ranked at (line_code places (n j) line) (scan at (lines_code places n (suc j) lines) behind) (work_plain places (n j) line tt)) (lines_ranked n (suc j) lines behind o k)
+  lines_ranked : (n : ℕ → ℕ) (needed : ℕ → ℕ → Bool) (before : Option ℕ) (j : ℕ) (lines : List Line) (behind : After) → ((j : ℕ) → (4 ≤ n j) × (n j ≤ 31)) → CutAfterCalls lines → AreRanked at (lines_code places n needed before j lines) behind
+  lines_ranked n needed before j [] behind o k = tt
+  lines_ranked n needed before j (Cut cause ∷ lines) behind o k = ranked_append at (cut_code (n j) cause) (lines_code places n needed None (suc j) lines) behind (cut_ranked (n j) cause (scan at (lines_code places n needed None (suc j) lines) behind) (o j)) (lines_ranked n needed None (suc j) lines behind o k)
+  lines_ranked n needed before j (Call to i start given ∷ lines) behind o k =
+      ranked_append at (call_code 1 (entry_label i)) (lines_code places n needed None (suc j) lines) behind
+      (jump_ranked 1 (entry_label i) (scan at (lines_code places n needed None (suc j) lines) behind) (λ e. absurd (omega arith)) (omega arith) (λ e. (let s = starts n needed None (suc j) lines behind k.0 in omega arith)))
+      (lines_ranked n needed None (suc j) lines behind o k.1)
+  lines_ranked n needed before j (Serve to Getchar None ∷ lines) behind o k =
+      ranked_append at (call_code 1 getchar_label) (lines_code places n needed None (suc j) lines) behind
+      (jump_ranked 1 getchar_label (scan at (lines_code places n needed None (suc j) lines) behind) (λ e. absurd (omega arith)) (omega arith) (λ e. (let s = starts n needed None (suc j) lines behind k.0 in omega arith)))
+      (lines_ranked n needed None (suc j) lines behind o k.1)
+  lines_ranked n needed before j (Serve to Getchar (Some from) ∷ lines) behind o k =
+      ranked_append at (call_code 1 getchar_label) (lines_code places n needed None (suc j) lines) behind
+      (jump_ranked 1 getchar_label (scan at (lines_code places n needed None (suc j) lines) behind) (λ e. absurd (omega arith)) (omega arith) (λ e. (let s = starts n needed None (suc j) lines behind k.0 in omega arith)))
+      (lines_ranked n needed None (suc j) lines behind o k.1)
+  lines_ranked n needed before j (Serve to Putchar None ∷ lines) behind o k =
+      ranked_append at (call_code 1 putchar_label) (lines_code places n needed None (suc j) lines) behind
+      (jump_ranked 1 putchar_label (scan at (lines_code places n needed None (suc j) lines) behind) (λ e. absurd (omega arith)) (omega arith) (λ e. (let s = starts n needed None (suc j) lines behind k.0 in omega arith)))
+      (lines_ranked n needed None (suc j) lines behind o k.1)
+  lines_ranked n needed before j (Serve to Putchar (Some from) ∷ lines) behind o k =
+      ranked_append at (call_code 1 putchar_label) (lines_code places n needed None (suc j) lines) behind
+      (jump_ranked 1 putchar_label (scan at (lines_code places n needed None (suc j) lines) behind) (λ e. absurd (omega arith)) (omega arith) (λ e. (let s = starts n needed None (suc j) lines behind k.0 in omega arith)))
+      (lines_ranked n needed None (suc j) lines behind o k.1)
+  lines_ranked n needed before j (line ∷ lines) behind o k =
+      let passed : Option ℕ = passed_by (needed (suc j)) line lines in
+      ranked_append at (way_code places (n j) passed before line) (lines_code places n needed passed (suc j) lines) behind (plain_ranked at (way_code places (n j) passed before line) (scan at (lines_code places n needed passed (suc j) lines) behind) (way_plain places (n j) passed before line tt)) (lines_ranked n needed passed (suc j) lines behind o k)
 
   -- ---- blocks
 
@@ -325,14 +322,17 @@ module _ (at : ℕ → ℕ) (places : Name → ℕ) (m : ℕ → ℕ → ℕ) (o
   own_calls : (block : Block) → All (CallsBelow functions) block.lines.items → All (CallsBelow functions) (own_of block)
   own_calls block c = all_left (CallsBelow functions) (own_of block) (tail_of block) (subst (All (CallsBelow functions)) (sym (whole_of block)) c)
 
+  abbrev needed_of : Block → ℕ → ℕ → Bool
+  needed_of block = behind_each live block.lines.items block.exit
+
   abbrev lines_of : ℕ → Block → List CodeLine
-  lines_of b block = lines_code places (m b) 0 (own_of block)
+  lines_of b block = lines_code places (m b) (needed_of block) None 0 (own_of block)
 
   abbrev ends : Option ℕ → ℕ → Block → List CodeLine
   ends next b block = exit_code distance next (is_empty (lines_of b block)) first frame (taken_of block) block.exit
 
   abbrev body : Option ℕ → ℕ → Block → List CodeLine
-  body next b block = taking_code places (m b) distance next first frame (taken_of block) block.lines.items block.exit
+  body next b block = taking_code places (m b) (needed_of block) distance next first frame (taken_of block) block.lines.items block.exit
 
   abbrev code_of : Option ℕ → ℕ → Block → List CodeLine
   code_of next b block = block_code places (m b) live distance next first frame b block
@@ -355,11 +355,11 @@ module _ (at : ℕ → ℕ) (places : Name → ℕ) (m : ℕ → ℕ → ℕ) (o
 
       by : (t : Bool) → (b == f.entry) ≡ t → (scan at (body next b block) behind).next ≤ rank_by_entry t (block_base + left b)
       by true e =
-          let s = starts (m b) 0 (own_of block) exits (starts_left live (own_of block) (tail_of block) block.exit (taken_of block) (takes live block.lines.items block.exit).is (subst StartsWithCut (sym (whole_of block)) (facts.entry (same_of b f.entry e)))) in
+          let s = starts (m b) (needed_of block) None 0 (own_of block) exits (starts_left live (own_of block) (tail_of block) block.exit (taken_of block) (takes live block.lines.items block.exit).is (subst StartsWithCut (sym (whole_of block)) (facts.entry (same_of b f.entry e)))) in
           let q = is in
           omega arith
       by false e =
-          let whole = lines_most (m b) 0 (own_of block) (tail_of block) block.exit exits (ends_most next b block behind meets facts.there) (own_calls block facts.calls) in
+          let whole = lines_most (m b) (needed_of block) None 0 (own_of block) (tail_of block) block.exit exits (ends_most next b block behind meets facts.there) (own_calls block facts.calls) in
           let all = ap (λ (z : List Line). cost_on left z block.exit) (whole_of block) in
           let most = facts.most in
           let q = is in
@@ -372,7 +372,7 @@ module _ (at : ℕ → ℕ) (places : Name → ℕ) (m : ℕ → ℕ → ℕ) (o
   block_ranked : (next : Option ℕ) (b : ℕ) (block : Block) (behind : After) → BlockFacts functions left f b block → Meets at next behind → AreRanked at (code_of next b block) behind
   block_ranked next b block behind facts meets =
       ranked_labelled at (first + b) (body next b block) behind (body_most next b block behind facts meets)
-      (ranked_append at (lines_of b block) (ends next b block) behind (lines_ranked (m b) 0 (own_of block) (scan at (ends next b block) behind) (okay b) (calls_left live (own_of block) (tail_of block) block.exit (taken_of block) (takes live block.lines.items block.exit).is (subst CutAfterCalls (sym (whole_of block)) facts.cuts))) (exit_ranked next (is_empty (lines_of b block)) (taken_of block) block.exit behind))
+      (ranked_append at (lines_of b block) (ends next b block) behind (lines_ranked (m b) (needed_of block) None 0 (own_of block) (scan at (ends next b block) behind) (okay b) (calls_left live (own_of block) (tail_of block) block.exit (taken_of block) (takes live block.lines.items block.exit).is (subst CutAfterCalls (sym (whole_of block)) facts.cuts))) (exit_ranked next (is_empty (lines_of b block)) (taken_of block) block.exit behind))
 
   -- ---- as they are laid
 
@@ -488,32 +488,35 @@ module _ (at : ℕ → ℕ) (places : Name → ℕ) (m : ℕ → ℕ → ℕ) (o
   exit_within top next bare taken (Return None) behind = ((λ jumps cut. absurd cc), leave_within top behind)
   exit_within top next bare taken (Return (Some r)) behind = leave_within top behind
 
-  lines_within : (top : ℕ) (n : ℕ → ℕ) (j : ℕ) (lines tail : List Line) (exit : Exit) (behind : After) → behind.next ≤ block_base + cost_on left tail exit → All (CallsBelow functions) lines → HasLittleLeft top (lines ++ tail) exit → AreWithin at top (lines_code places n j lines) behind
-  lines_within top n j [] tail exit behind h c little = tt
-  lines_within top n j (line ∷ lines) tail exit behind h c little =
-      within_append at top (line_code places (n j) line) (lines_code places n (suc j) lines) behind (one line little)
-      (lines_within top n (suc j) lines tail exit behind h later (λ before cause rest e. little (line ∷ before) cause rest (ap (λ z. line ∷ z) e)))
+  lines_within : (top : ℕ) (n : ℕ → ℕ) (needed : ℕ → ℕ → Bool) (before : Option ℕ) (j : ℕ) (lines tail : List Line) (exit : Exit) (behind : After) → behind.next ≤ block_base + cost_on left tail exit → All (CallsBelow functions) lines → HasLittleLeft top (lines ++ tail) exit → AreWithin at top (lines_code places n needed before j lines) behind
+  lines_within top n needed before j [] tail exit behind h c little = tt
+  lines_within top n needed before j (line ∷ lines) tail exit behind h c little =
+      within_append at top (way_code places (n j) passed before line) (lines_code places n needed passed (suc j) lines) behind (one line little)
+      (lines_within top n needed passed (suc j) lines tail exit behind h later (λ former cause rest e. little (line ∷ former) cause rest (ap (λ z. line ∷ z) e)))
     where
+      passed : Option ℕ
+      passed = passed_by (needed (suc j)) line lines
+
       later : All (CallsBelow functions) lines
       later = All-tail (CallsBelow functions) line lines c
 
       onward : After
-      onward = scan at (lines_code places n (suc j) lines) behind
+      onward = scan at (lines_code places n needed passed (suc j) lines) behind
 
-      one : (x : Line) → HasLittleLeft top (x ∷ (lines ++ tail)) exit → AreWithin at top (line_code places (n j) x) onward
-      one (Cut cause) k = ((λ jumps cut. (let most = lines_most n (suc j) lines tail exit behind h later in let less = k [] cause (lines ++ tail) refl in omega arith)), tt)
+      one : (x : Line) → HasLittleLeft top (x ∷ (lines ++ tail)) exit → AreWithin at top (way_code places (n j) passed before x) onward
+      one (Cut cause) k = ((λ jumps cut. (let most = lines_most n needed passed (suc j) lines tail exit behind h later in let less = k [] cause (lines ++ tail) refl in omega arith)), tt)
       one (Call to i start given) k = jump_within top 1 (entry_label i) onward (λ e. absurd (omega arith))
       one (Serve to Getchar None) k = jump_within top 1 getchar_label onward (λ e. absurd (omega arith))
       one (Serve to Getchar (Some from)) k = jump_within top 1 getchar_label onward (λ e. absurd (omega arith))
       one (Serve to Putchar None) k = jump_within top 1 putchar_label onward (λ e. absurd (omega arith))
       one (Serve to Putchar (Some from)) k = jump_within top 1 putchar_label onward (λ e. absurd (omega arith))
-      one x k = plain_within at top (line_code places (n j) x) onward (work_plain places (n j) x tt)
+      one x k = plain_within at top (way_code places (n j) passed before x) onward (way_plain places (n j) passed before x tt)
 
   block_within : (top : ℕ) (next : Option ℕ) (b : ℕ) (block : Block) (behind : After) → BlockFacts functions left f b block → HasLittleLeft top block.lines.items block.exit → Meets at next behind → AreWithin at top (code_of next b block) behind
   block_within top next b block behind facts little meets =
       within_labelled at top (first + b) (body next b block) behind
       (within_append at top (lines_of b block) (ends next b block) behind
-      (lines_within top (m b) 0 (own_of block) (tail_of block) block.exit (scan at (ends next b block) behind) (ends_most next b block behind meets facts.there) (own_calls block facts.calls) (subst (λ (z : List Line). HasLittleLeft top z block.exit) (sym (whole_of block)) little))
+      (lines_within top (m b) (needed_of block) None 0 (own_of block) (tail_of block) block.exit (scan at (ends next b block) behind) (ends_most next b block behind meets facts.there) (own_calls block facts.calls) (subst (λ (z : List Line). HasLittleLeft top z block.exit) (sym (whole_of block)) little))
       (exit_within top next (is_empty (lines_of b block)) (taken_of block) block.exit behind))
 
   -- a block's facts, and little left behind its cuts

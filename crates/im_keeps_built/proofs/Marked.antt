@@ -8,6 +8,7 @@ use Rattle.im_rv.specs.declared.instr.Op.{Op}
 use Rattle.im_rv.specs.declared.instr.Op.TheVariants.{Jal}
 use Rattle.im_rv.specs.declared.code.Line.{Line as RustLine}
 use Rattle.im_rv.specs.declared.code.Part.{Part}
+use Rattle.im_rv.specs.Decode.{Line as Instruction}
 use Rattle.im_rv.specs.Lines.{CodeLine, plain_line, code_line, code_lines}
 use Rattle.im_rv_reach.specs.Instructions.{upper}
 use Rattle.im_gap.specs.declared.flow.Turn.TheVariants.{Passes, Jumps}
@@ -34,11 +35,12 @@ use Rattle.im_frame.specs.declared.layout.Layout.{Layout}
 use Rattle.im_select.specs.declared.branching.Test.{Test}
 use Rattle.im_select.specs.declared.distance.Distance.{Distance as Reach}
 use Rattle.im_select.specs.declared.distance.Distance.TheVariants.{Near, Far}
-use Rattle.im_select.specs.Emitted.{high_of, low_of, constant_by, constant_code, displaced_by, displaced_code, adds_by, adds_code, place_number, place_code, moved_code, copied_code, step_op, shift_of, shifts_code, scaled_code, based_code, address_code, line_code, lines_code, onward_code, test_op, test_code, test_or, taken_test, own_lines, is_next, branch_code, exit_code, is_empty, result_code, leave_code, block_code, laid_order, Laying, next_label, found_code, laid_block, laid_code, blocks_code, prologue_code, function_code, labelled, entry_label}
+use Rattle.im_select.specs.Emitted.{high_of, low_of, constant_by, constant_code, displaced_by, displaced_code, adds_by, adds_code, place_number, place_code, moved_code, copied_code, step_op, shift_of, shifts_code, scaled_code, based_code, address_code, computed_code, immediate_line, passed_by, by_or, way_code, line_code, lines_code, behind_each, onward_code, test_op, test_code, test_or, taken_test, own_lines, is_next, branch_code, exit_code, is_empty, result_code, leave_code, block_code, laid_order, Laying, next_label, found_code, laid_block, laid_code, blocks_code, prologue_code, function_code, labelled, entry_label}
 use Rattle.im_select.specs.Selects.{laying_of}
 use Rattle.im_link_laws.specs.Program.{HasCode, part_of, given_at, start_code, IsProgram}
 use Rattle.im_saved_lines.specs.Scan.{way}
 use Rattle.im_saved_lines.proofs.Scanning.{both}
+use Rattle.im_saved_lines.proofs.Working.{immediate_way}
 use Rattle.im_saved_lines.proofs.Plain.{operation_way, less_way, load_way, store_way, step_way}
 
 abbrev pub IsMarked : CodeLine → Type 0
@@ -186,9 +188,22 @@ line_marked at m (Call to i first count) = (refl, tt)
 line_marked at m (Serve to service None) = (refl, tt)
 line_marked at m (Serve to service (Some from)) = (refl, tt)
 
-lines_marked : (at : Name → ℕ) (m : ℕ → ℕ) (j : ℕ) (lines : List Line) → AreMarked (lines_code at m j lines)
-lines_marked at m j [] = tt
-lines_marked at m j (line ∷ lines) = marked_append (line_code at (m j) line) (lines_code at m (suc j) lines) (line_marked at (m j) line) (lines_marked at m (suc j) lines)
+way_marked : (at : Name → ℕ) (m : ℕ) (passed before : Option ℕ) (line : Line) → AreMarked (way_code at m passed before line)
+way_marked at m None before (Put to z) = constant_marked to (word z)
+way_marked at m (Some n) before (Put to z) = tt
+way_marked at m passed None (Compute to op kind left right) = line_marked at m (Compute to op kind left right)
+way_marked at m passed (Some n) (Compute to op kind left right) = by (immediate_line to op kind left n) refl
+  where
+    by : (o : Option Instruction) → immediate_line to op kind left n ≡ o → AreMarked (by_or (computed_code to op kind left right) o)
+    by None e = line_marked at m (Compute to op kind left right)
+    by (Some l) e = (unlinked l.op l.rd (immediate_way to op kind left n l e), tt)
+way_marked at m passed before line = line_marked at m line
+
+lines_marked : (at : Name → ℕ) (m : ℕ → ℕ) (needed : ℕ → ℕ → Bool) (before : Option ℕ) (j : ℕ) (lines : List Line) → AreMarked (lines_code at m needed before j lines)
+lines_marked at m needed before j [] = tt
+lines_marked at m needed before j (line ∷ lines) =
+    let passed : Option ℕ = passed_by (needed (suc j)) line lines in
+    marked_append (way_code at (m j) passed before line) (lines_code at m needed passed (suc j) lines) (way_marked at (m j) passed before line) (lines_marked at m needed passed (suc j) lines)
 
 result_marked : (from : Option ℕ) → AreMarked (result_code from)
 result_marked None = (refl, tt)
@@ -234,10 +249,11 @@ block_marked : (at : Name → ℕ) (m : ℕ → ℕ) (live : ℕ → ℕ → Boo
 block_marked at m live distance next first frame b block =
     let taken : Option Test = taken_test live block.lines.items block.exit in
     let own : List Line = own_lines taken block.lines.items in
-    let lines : List CodeLine = lines_code at m 0 own in
+    let needed : ℕ → ℕ → Bool = behind_each live block.lines.items block.exit in
+    let lines : List CodeLine = lines_code at m needed None 0 own in
     let ends : List CodeLine = exit_code distance next (is_empty lines) first frame taken block.exit in
     labelled_marked (first + b) (lines ++ ends)
-    (marked_append lines ends (lines_marked at m 0 own) (exit_marked distance next (is_empty lines) first frame taken block.exit))
+    (marked_append lines ends (lines_marked at m needed None 0 own) (exit_marked distance next (is_empty lines) first frame taken block.exit))
 
 found_marked : (laying : Laying) (b : ℕ) (next : Option ℕ) (o : Option Block) → AreMarked (found_code laying b next o)
 found_marked laying b next None = tt

@@ -96,12 +96,14 @@ module _ (image : ImageValue) (form : image.form ≡ TwoLengths) (run : ℕ → 
           absurd (omega arith)
 
       first : m 36 ≡ 0 → (b : ℕ) → 12 ≤ b → b < 16 → m b ≡ (run t).mem b
-      first zero_ b low high = byte_same b (low_out b (omega arith)) (λ w z e f k.
-      o.first_length w b z f low high k (ap (λ s. (run s).mem 36) e ∙ sym (as_first 36 (low_out 36 (omega arith)) selector) ∙ zero_))
+      first zero_ b low high =
+          byte_same b (low_out b (omega arith)) (λ w z e f k.
+          o.first_length w b z f low high k (ap (λ s. (run s).mem 36) e ∙ sym (as_first 36 (low_out 36 (omega arith)) selector) ∙ zero_))
 
       second : m 36 ≢ 0 → (b : ℕ) → 32 ≤ b → b < 36 → m b ≡ (run t).mem b
-      second other b low high = byte_same b (low_out b (omega arith)) (λ w z e f k.
-      other (as_first 36 (low_out 36 (omega arith)) selector ∙ sym (ap (λ s. (run s).mem 36) e) ∙ o.second_length w b z f low high k))
+      second other b low high =
+          byte_same b (low_out b (omega arith)) (λ w z e f k.
+          other (as_first 36 (low_out 36 (omega arith)) selector ∙ sym (ap (λ s. (run s).mem 36) e) ∙ o.second_length w b z f low high k))
 
       size : output_size m ≡ output_size (run t).mem
       size = size_by m (run t).mem (byte_same 36 (low_out 36 (omega arith)) selector)

@@ -52,10 +52,10 @@ not_in_buffer : (a : ℕ) → 4096 ≤ a → is_buffer a ≡ false
 not_in_buffer a low = grind (arith, nat_tests)
 
 no_output : (image : ImageValue) (a : ℕ) → a < 1048576 → is_output image a ≡ false
-no_output image a high = below (4194304 + image.out_cap)
+no_output image a high = below (4194304 + image.out_cap) high
   where
-    below : (end : ℕ) → (nat_le 4194304 a && nat_lt a end) ≡ false
-    below end = grind (arith, nat_tests)
+    below : (end : ℕ) → a < 1048576 → (nat_le 4194304 a && nat_lt a end) ≡ false
+    below end less = grind (arith, nat_tests)
 
 no_stack : (image : ImageValue) (a : ℕ) → image.stack ≤ 1048576 → a < 1048576 → is_stack image a ≡ false
 no_stack image a few high = by (3145728 - image.stack) (omega arith)

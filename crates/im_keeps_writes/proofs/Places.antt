@@ -143,10 +143,10 @@ small_place b n place = elim (place_sizes b n place) [
 ]
 
 output_byte : (image : ImageValue) (a : ℕ) → 4194304 ≤ a → a < 4194304 + image.out_cap → is_output image a ≡ true
-output_byte image a low high = within (4194304 + image.out_cap) high
+output_byte image a low high = within (4194304 + image.out_cap) low high
   where
-    within : (end : ℕ) → a < end → (nat_le 4194304 a && nat_lt a end) ≡ true
-    within end less = grind (arith, nat_tests)
+    within : (end : ℕ) → 4194304 ≤ a → a < end → (nat_le 4194304 a && nat_lt a end) ≡ true
+    within end more less = grind (arith, nat_tests)
 
 stack_byte : (image : ImageValue) (a : ℕ) → 3145728 - image.stack ≤ a → a < 3145728 → is_stack image a ≡ true
 stack_byte image a low high = grind (arith, nat_tests)

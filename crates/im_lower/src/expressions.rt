@@ -75,7 +75,7 @@ pub(crate) fn lower_expression(
             number: *number,
         }),
         Expr::Null => code.put(Line::PutNull { to }),
-        Expr::Serve(service, None) => code.put(Line::Serve {
+        Expr::Serve(service) => code.put(Line::Serve {
             to,
             service: *service,
             from: None,
@@ -83,7 +83,7 @@ pub(crate) fn lower_expression(
         Expr::Convert(_, operand)
         | Expr::Unary(_, _, operand)
         | Expr::Not(operand)
-        | Expr::Serve(_, Some(operand)) => {
+        | Expr::ServeWith(_, operand) => {
             put_operator(code, expression, to, free)?;
             lower_expression(code, operand, free, above, prog, first)
         }

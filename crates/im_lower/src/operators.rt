@@ -33,7 +33,7 @@ pub(crate) fn put_operator(
             from: free,
         }),
         Expr::Not(_) => code.put(Line::Not { to, from: free }),
-        Expr::Serve(service, Some(_)) => code.put(Line::Serve {
+        Expr::ServeWith(service, _) => code.put(Line::Serve {
             to,
             service: *service,
             from: Some(free),
@@ -74,7 +74,7 @@ pub(crate) fn put_operator(
         }),
         Expr::Number(_, _)
         | Expr::Null
-        | Expr::Serve(_, None)
+        | Expr::Serve(_)
         | Expr::Read(_, _)
         | Expr::Address(_)
         | Expr::And(_, _)

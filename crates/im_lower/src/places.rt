@@ -82,7 +82,7 @@ pub(crate) fn shape_of(expression: &Expr, prog: &Prog) -> Option<Access>
         | Expr::Not(_)
         | Expr::And(_, _)
         | Expr::Or(_, _) => Some(Access::Scalar(Kind::I32)),
-        Expr::Serve(service, None) | Expr::Serve(service, Some(_)) => {
+        Expr::Serve(service) | Expr::ServeWith(service, _) => {
             Some(Access::Scalar(service.gives()))
         }
         Expr::Read(access, _) | Expr::Assign(access, _, _) | Expr::Part { access, .. } => {

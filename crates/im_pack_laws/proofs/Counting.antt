@@ -1,5 +1,5 @@
 -- Each line but a copy to itself has a word, and so have each block and each function's entry.
-use Rattle.std.proofs.Common.{◌≡◌, ◌<◌, ◌≤◌, inl, inr, ℕ, zero, suc, ◌+◌, ◌*◌, ◌-◌, ◌^◌, Bool, true, false, List, [], ◌∷◌, ◌++◌, Option, Some, None, length, take, refl, ap, arith, length-append}
+use Rattle.std.proofs.Common.{◌≡◌, ◌<◌, ◌≤◌, inl, inr, ℕ, ℤ, zero, suc, ◌+◌, ◌*◌, ◌-◌, ◌^◌, Bool, true, false, List, [], ◌∷◌, ◌++◌, Option, Some, None, length, take, refl, ap, ◌∙◌, arith, length-append}
 use Rattle.std.specs.Prelude.{◌==◌, ◌&&◌, if◌then◌else◌, slice_get}
 use Rattle.std.proofs.lemmas.Bool.Decides.{nat_tests}
 use Rattle.std.proofs.lemmas.List.{take_all}
@@ -10,6 +10,7 @@ use Rattle.im_num.specs.Kinds.{kind_size, word}
 use Rattle.im_rv.specs.declared.code.Part.{Part}
 use Rattle.im_rv.specs.Lines.{CodeLine, plain_line}
 use Rattle.im_rv_reach.specs.Instructions.{upper}
+use Rattle.im_store.specs.declared.operators.BinaryOp.{BinaryOp}
 use Rattle.im_store.specs.declared.operators.UnaryOp.{UnaryOp}
 use Rattle.im_store.specs.declared.operators.UnaryOp.TheVariants.{Negate, Complement}
 use Rattle.im_store.specs.declared.operators.Comparison.{Comparison}
@@ -29,8 +30,10 @@ use Rattle.im_select.specs.declared.branching.Test.{Test}
 use Rattle.im_select.specs.declared.branching.Test.TheVariants.{Compares}
 use Rattle.im_select.specs.declared.distance.Distance.{Distance as Reach}
 use Rattle.im_select.specs.declared.distance.Distance.TheVariants.{Near, Far}
-use Rattle.im_select.specs.Emitted.{constant_by, high_of, low_of, moved_code, copied_code, converted_code, unary_code, compared_code, scaled_code, place_code, displaced_code, place_number, based_code, address_code, line_code, lines_code, adds_code, enter_code, onward_code, test_code, test_or, taken_test, own_lines, is_next, branch_code, exit_code, is_empty, ended_code, labelled, block_code, others_below, laid_order, Laying, next_label, found_code, laid_block, laid_code, blocks_code, prologue_code, function_code, entry_label}
+use Rattle.im_select.specs.Emitted.{constant_by, high_of, low_of, moved_code, copied_code, converted_code, unary_code, compared_code, scaled_code, place_code, displaced_code, place_number, based_code, address_code, word_taken, passed_by, line_code, lines_code, behind_each, adds_code, enter_code, onward_code, test_code, test_or, taken_test, own_lines, is_next, branch_code, exit_code, is_empty, ended_code, labelled, block_code, others_below, laid_order, Laying, next_label, found_code, laid_block, laid_code, blocks_code, prologue_code, function_code, entry_label}
 use Rattle.im_select.specs.Selects.{laying_of}
+use Rattle.im_select.proofs.Pairing.{lines_alone, lines_paired, folds}
+use Rattle.im_select.proofs.Parts.{word_cases}
 use Rattle.im_select.proofs.Taking.{IsTaken, Nothing, Comparing, takes}
 use Rattle.im_rv.specs.declared.instr.Op.{Op}
 use Rattle.im_select_operators.specs.Tables.{less_op}
@@ -122,13 +125,28 @@ halves_some : (at : Name → ℕ) (m : ℕ) (line : Line) → line_halves line �
 halves_some at m (Cut cause) = omega arith
 halves_some at m line = let a = line_some at m line in omega arith
 
-lines_some : (at : Name → ℕ) (m : ℕ → ℕ) (j : ℕ) (lines : List Line) → sum_of line_halves lines ≤ 2 * length (lines_code at m j lines)
-lines_some at m j [] = omega arith
-lines_some at m j (line ∷ lines) =
+alone_some : (at : Name → ℕ) (m : ℕ → ℕ) (needed : ℕ → ℕ → Bool) (j : ℕ) (line : Line) (lines : List Line) → passed_by (needed (suc j)) line lines ≡ None → sum_of line_halves lines ≤ 2 * length (lines_code at m needed None (suc j) lines) → sum_of line_halves (line ∷ lines) ≤ 2 * length (lines_code at m needed None j (line ∷ lines))
+alone_some at m needed j line lines e r =
     let a = halves_some at (m j) line in
-    let r = lines_some at m (suc j) lines in
-    let l = length-append (line_code at (m j) line) (lines_code at m (suc j) lines) in
+    let l = length-append (line_code at (m j) line) (lines_code at m needed None (suc j) lines) in
+    let same = ap length (lines_alone at m needed j line lines e) in
     omega arith
+
+folded_some : (at : Name → ℕ) (m : ℕ → ℕ) (needed : ℕ → ℕ → Bool) (j r : ℕ) (z : ℤ) (to : ℕ) (op : BinaryOp) (kind : Kind) (left right : ℕ) (lines : List Line) (n : ℕ) → word_taken (needed (suc j)) r (word z) (Compute to op kind left right) ≡ Some n → sum_of line_halves lines ≤ 2 * length (lines_code at m needed None (suc (suc j)) lines) → sum_of line_halves (Put r z ∷ Compute to op kind left right ∷ lines) ≤ 2 * length (lines_code at m needed None j (Put r z ∷ Compute to op kind left right ∷ lines))
+folded_some at m needed j r z to op kind left right lines n e rest =
+    let d = folds (needed (suc j)) r (word z) to op kind left right n e in
+    let same = ap length (lines_paired at m needed j r z to op kind left right lines (word z) d.line (e ∙ ap Some d.same) d.is) in
+    omega arith
+
+-- a constant that the next line takes is paid by that
+lines_some : (at : Name → ℕ) (m : ℕ → ℕ) (needed : ℕ → ℕ → Bool) (j : ℕ) (lines : List Line) → sum_of line_halves lines ≤ 2 * length (lines_code at m needed None j lines)
+lines_some at m needed j [] = omega arith
+lines_some at m needed j (Put r z ∷ Compute to op kind left right ∷ lines) =
+    let user : Line = Compute to op kind left right in
+    word_cases (word_taken (needed (suc j)) r (word z) user)
+    (λ e. alone_some at m needed j (Put r z) (user ∷ lines) e (lines_some at m needed (suc j) (Compute to op kind left right ∷ lines)))
+    (λ n e. folded_some at m needed j r z to op kind left right lines n e (lines_some at m needed (suc (suc j)) lines))
+lines_some at m needed j (line ∷ lines) = alone_some at m needed j line lines refl (lines_some at m needed (suc j) lines)
 
 branch_some : (distance : Reach) (next : Option ℕ) (t : Test) (there other : ℕ) → 0 < length (branch_code distance next t there other)
 branch_some distance next t there other = by (is_next next there)
@@ -174,9 +192,10 @@ block_some at m live distance next first frame b block =
     let taken : Option Test = taken_test live block.lines.items block.exit in
     let own : List Line = own_lines taken block.lines.items in
     let t = takes live block.lines.items block.exit in
-    let lines : List CodeLine = lines_code at m 0 own in
+    let needed : ℕ → ℕ → Bool = behind_each live block.lines.items block.exit in
+    let lines : List CodeLine = lines_code at m needed None 0 own in
     let ends : List CodeLine = exit_code distance next (is_empty lines) first frame taken block.exit in
-    let a = lines_some at m 0 own in
+    let a = lines_some at m needed 0 own in
     let rest = tail_some live distance next (is_empty lines) first frame t.tail block.exit taken t.is in
     let sum = sum_append line_halves own t.tail in
     let all = ap (sum_of line_halves) t.whole in

@@ -1,18 +1,21 @@
 -- The lines of a block, selected: what lives before them, and that they are sound.
-use Rattle.std.proofs.Common.{◌≡◌, ◌≢◌, ℕ, suc, ◌+◌, ◌<◌, ◌≤◌, ◌⊎◌, inl, inr, Bool, true, false, cond, List, [], ◌∷◌, ◌++◌, Option, Some, None, refl, sym, ap, ◌∙◌, subst, arith}
+use Rattle.std.proofs.Common.{◌≡◌, ◌≢◌, ℕ, ℤ, suc, ◌+◌, ◌<◌, ◌≤◌, ◌⊎◌, inl, inr, Bool, true, false, cond, List, [], ◌∷◌, ◌++◌, Option, Some, None, refl, sym, ap, ◌∙◌, subst, arith}
 use Rattle.std.specs.Prelude.{◌==◌, ◌&&◌, ◌||◌, not, nat_lt, nat_le, if◌then◌else◌, slice_get, All}
 use Rattle.std.proofs.lemmas.Bool.Decides.{nat_tests}
 use Rattle.std.proofs.lemmas.List.Elements.{All-head, All-tail}
 use Rattle.im_num.specs.declared.kind.Kind.{Kind}
 use Rattle.im_num.specs.declared.values.Cause.{Cause}
+use Rattle.im_num.specs.Kinds.{word}
 use Rattle.im_rv.specs.declared.instr.Op.{Op}
 use Rattle.im_rv.specs.declared.instr.Op.TheVariants.{Jalr, Beq, Bne, Blt, Bge, Bltu, Bgeu, Lw}
 use Rattle.im_rv.specs.declared.format.Format.TheVariants.{Branch as OfBranches}
 use Rattle.im_rv.specs.Formats.{format_of}
+use Rattle.im_rv.specs.Decode.{Line as Instruction}
 use Rattle.im_rv.specs.Lines.{CodeLine, plain_line}
 use Rattle.im_rv_reach.specs.Instructions.{with_immediate, branching, jumping}
 use Rattle.im_gap.specs.declared.flow.Turn.TheVariants.{Branches}
 use Rattle.im_rtlib.specs.Routines.{aimed}
+use Rattle.im_store.specs.declared.operators.BinaryOp.{BinaryOp}
 use Rattle.im_store.specs.declared.operators.Comparison.{Comparison}
 use Rattle.im_store.specs.declared.operators.Comparison.TheVariants.{Less, Greater, LessOrEqual, GreaterOrEqual, Equal, NotEqual}
 use Rattle.im_store.specs.Objects.{Name}
@@ -29,17 +32,20 @@ use Rattle.im_alloc_placed.specs.Operands.{IsHome, PlaceAtHome}
 use Rattle.im_alloc_placed.specs.Placed.{IsPlacedLine, IsPlacedExit}
 use Rattle.im_alloc_relation.specs.Live.{place_uses, uses, sets}
 use Rattle.im_live.specs.Reads.{reads, reads_stack, writes, exit_live, lives_before}
+use Rattle.im_live.proofs.Paths.{lives_more}
 use Rattle.im_select.specs.declared.branching.Test.{Test}
 use Rattle.im_select.specs.declared.branching.Test.TheVariants.{Nonzero, Compares}
 use Rattle.im_select.specs.declared.distance.Distance.{Distance as Reach}
 use Rattle.im_select.specs.declared.distance.Distance.TheVariants.{Near, Far}
-use Rattle.im_select.specs.Emitted.{entry_label, cut_code, result_code, call_code, line_code, lines_code, adds_code, leave_code, onward_code, both_ways, test_op, test_code, test_or, taken_test, own_lines, is_next, branch_code, exit_code, is_empty, taking_code}
+use Rattle.im_select.specs.Emitted.{entry_label, cut_code, result_code, call_code, word_taken, passed_by, line_code, lines_code, behind_each, adds_code, leave_code, onward_code, both_ways, test_op, test_code, test_or, taken_test, own_lines, is_next, branch_code, exit_code, is_empty, taking_code}
+use Rattle.im_select.proofs.Pairing.{lines_alone, lines_paired, Folds, folds, IsImmediate, immediate_of}
+use Rattle.im_select.proofs.Parts.{IsBehind, behind_tail, word_cases}
 use Rattle.im_select.proofs.Taking.{IsTaken, Nothing, Comparing, takes as parted, test_branches}
 use Rattle.im_saved_lines.specs.Scan.{Goes, IsSoundLine, way, is_base, is_returned, After, onward, scan, AreSound}
 use Rattle.im_saved_lines.specs.Laws.{lives_inside, IsLow, HasEntries, HasBlocks, HoldsCalls, SavesFrom}
-use Rattle.im_saved_lines.proofs.Scanning.{both, both_are, either, or_left, or_right, same_of, same_is, IsUnsaved, unsaved_not, unsaved_true, or_unsaved, scan_append, sound_append, Lives, First, Second, Later, line_lives, plain_sound, Wants, plain_wants}
+use Rattle.im_saved_lines.proofs.Scanning.{both, both_are, either, or_left, or_right, same_of, same_is, other_is, IsUnsaved, unsaved_not, unsaved_true, or_unsaved, scan_append, sound_append, Lives, First, Second, Later, line_lives, plain_sound, Wants, plain_wants}
 use Rattle.im_saved_lines.proofs.Plain.{adds_plain, adds_wants}
-use Rattle.im_saved_lines.proofs.Working.{work_plain, work_wants}
+use Rattle.im_saved_lines.proofs.Working.{immediate_way, work_plain, work_wants}
 
 -- ---- registers that lines of placed code use are homes
 
@@ -421,15 +427,88 @@ module _ (functions : List Function) (statics first count frame : ℕ) (f : Func
       ten e = elim (either (r == 10) false e) [ inl a ↦ same_of r 10 a | inr b ↦ absurd cc ]
   line_before k line behind r h t u w = work_before line behind r (λ q. refl) (work_wants places k line tt (behind.next r ≡ true) r u (plain_wants at (line_code places k line) behind r (work_plain places k line tt) u w))
 
-  pub lines_before : (j : ℕ) (lines tail : List Line) (exit : Exit) (behind : After) (r : ℕ) → ((s : ℕ) → IsUnsaved s → behind.next s ≡ true → lives_before live tail exit s ≡ true) → All (IsPlacedLine statics f) (lines ++ tail) → All (LineThere functions) (lines ++ tail) → IsUnsaved r → (scan at (lines_code places m j lines) behind).next r ≡ true → lives_before live (lines ++ tail) exit r ≡ true
-  lines_before j [] tail exit behind r k h t u w = k r u w
-  lines_before j (line ∷ lines) tail exit behind r k h t u w =
-      let rest : After = scan at (lines_code places m (suc j) lines) behind in
-      elim (line_before (m j) line rest r (All-head (IsPlacedLine statics f) line (lines ++ tail) h) (All-head (LineThere functions) line (lines ++ tail) t) u (sym (ap (λ (z : After). z.next r) (scan_append at (line_code places (m j) line) (lines_code places m (suc j) lines) behind)) ∙ w)) [
-        | inl e ↦ or_left (reads line r) (not (writes line r) && lives_before live (lines ++ tail) exit r) e
+  -- a line that takes nothing and passes nothing on
+  alone_before : (needed : ℕ → ℕ → Bool) (j : ℕ) (line : Line) (lines tail : List Line) (exit : Exit) (behind : After) (r : ℕ) → passed_by (needed (suc j)) line lines ≡ None → ((scan at (lines_code places m needed None (suc j) lines) behind).next r ≡ true → lives_before live (lines ++ tail) exit r ≡ true) → IsPlacedLine statics f line → LineThere functions line → IsUnsaved r → (scan at (lines_code places m needed None j (line ∷ lines)) behind).next r ≡ true → lives_before live ((line ∷ lines) ++ tail) exit r ≡ true
+  alone_before needed j line lines tail exit behind r e later h t u w =
+      let code : List CodeLine = line_code places (m j) line in
+      let ahead : List CodeLine = lines_code places m needed None (suc j) lines in
+      let rest : After = scan at ahead behind in
+      let is = ap (λ z. scan at z behind) (lines_alone places m needed j line lines e) ∙ scan_append at code ahead behind in
+      elim (line_before (m j) line rest r h t u (sym (ap (λ (z : After). z.next r) is) ∙ w)) [
+        | inl a ↦ or_left (reads line r) (not (writes line r) && lives_before live (lines ++ tail) exit r) a
         | inr c ↦ or_right (reads line r) (not (writes line r) && lives_before live (lines ++ tail) exit r)
-            (both_are (not (writes line r)) (lives_before live (lines ++ tail) exit r) (ap not c.0) (lines_before (suc j) lines tail exit behind r k (All-tail (IsPlacedLine statics f) line (lines ++ tail) h) (All-tail (LineThere functions) line (lines ++ tail) t) u c.1))
+            (both_are (not (writes line r)) (lives_before live (lines ++ tail) exit r) (ap not c.0) (later c.1))
       ]
+
+  -- what lives by `live` lives by what constants are taken by too
+  kept_before : (lines : List Line) (exit : Exit) (r : ℕ) → lives_before live lines exit r ≡ true → lives_before by lines exit r ≡ true
+  kept_before lines exit r = lives_more live by r (λ b e. kept b r e) lines exit
+
+  -- a constant and the line that takes it
+  folded_before : (needed : ℕ → ℕ → Bool) (j x : ℕ) (z : ℤ) (to : ℕ) (op : BinaryOp) (kind : Kind) (left right : ℕ) (lines tail : List Line) (exit : Exit) (behind : After) (r n : ℕ) → word_taken (needed (suc j)) x (word z) (Compute to op kind left right) ≡ Some n → IsBehind by needed j ((Put x z ∷ Compute to op kind left right ∷ lines) ++ tail) exit → ((scan at (lines_code places m needed None (suc (suc j)) lines) behind).next r ≡ true → lives_before live (lines ++ tail) exit r ≡ true) → IsUnsaved r → (scan at (lines_code places m needed None j (Put x z ∷ Compute to op kind left right ∷ lines)) behind).next r ≡ true → lives_before live ((Put x z ∷ Compute to op kind left right ∷ lines) ++ tail) exit r ≡ true
+  folded_before needed j x z to op kind left right lines tail exit behind r n e is later u w =
+      cases (plain_wants at (plain_line (with_immediate i.by to left i.imm) ∷ []) rest r ((ap (λ (l : Instruction). way l.op) (sym i.line) ∙ immediate_way to op kind left (word z) d.line d.is, refl), tt) u there)
+    where
+      user : Line
+      user = Compute to op kind left right
+
+      d : Folds (needed (suc j)) x (word z) to op kind left right n
+      d = folds (needed (suc j)) x (word z) to op kind left right n e
+
+      i : IsImmediate to op kind left z d.line
+      i = immediate_of to op kind left z d.line d.is
+
+      rest : After
+      rest = scan at (lines_code places m needed None (suc (suc j)) lines) behind
+
+      there : (scan at (plain_line (with_immediate i.by to left i.imm) ∷ []) rest).next r ≡ true
+      there =
+          sym (ap (λ (c : List CodeLine). (scan at c behind).next r)
+          (lines_paired places m needed j x z to op kind left right lines (word z) d.line (e ∙ ap Some d.same) d.is
+          ∙ ap (λ (l : Instruction). plain_line l ∷ lines_code places m needed None (suc (suc j)) lines) i.line))
+          ∙ w
+
+      remains : Bool
+      remains = not (writes user r) && lives_before live (lines ++ tail) exit r
+
+      -- a register that isn't the constant's
+      found : r ≢ x → (reads user r || remains) ≡ true → lives_before live ((Put x z ∷ user ∷ lines) ++ tail) exit r ≡ true
+      found ne a = both_are (not (r == x)) (reads user r || remains) (ap not (other_is r x ne)) a
+
+      spent : lives_before live (lines ++ tail) exit r ≡ true → r ≢ to → r ≢ x
+      spent l ne q = elim d.spent [
+        | inl s ↦ ne (q ∙ s)
+        | inr s ↦
+            (let k : 1 + j ≡ suc j = omega arith in
+            let dead : lives_before by (lines ++ tail) exit x ≡ false = sym (is 1 x) ∙ ap (λ b. needed b x) k ∙ s in
+            let lives : lives_before by (lines ++ tail) exit x ≡ true = ap (lives_before by (lines ++ tail) exit) (sym q) ∙ kept_before (lines ++ tail) exit r l in
+            let bad : true ≡ false = sym lives ∙ dead in
+            cc)
+      ]
+
+      cases : (r ≡ left) ⊎ (r ≡ 0) ⊎ ((r ≢ to) × (rest.next r ≡ true)) → lives_before live ((Put x z ∷ user ∷ lines) ++ tail) exit r ≡ true
+      cases (inl a) = found (λ q. d.apart (sym a ∙ q)) (or_left (reads user r) remains (or_left (r == left || r == right) false (or_left (r == left) (r == right) (same_is r left a))))
+      cases (inr (inl a)) = absurd (unsaved_not r 0 u refl a)
+      cases (inr (inr c)) =
+          let l = later c.1 in
+          found (spent l c.0) (or_right (reads user r) remains (both_are (not (r == to)) (lives_before live (lines ++ tail) exit r) (ap not (other_is r to c.0)) l))
+
+  pub lines_before : (needed : ℕ → ℕ → Bool) (j : ℕ) (lines tail : List Line) (exit : Exit) (behind : After) (r : ℕ) → IsBehind by needed j (lines ++ tail) exit → ((s : ℕ) → IsUnsaved s → behind.next s ≡ true → lives_before live tail exit s ≡ true) → All (IsPlacedLine statics f) (lines ++ tail) → All (LineThere functions) (lines ++ tail) → IsUnsaved r → (scan at (lines_code places m needed None j lines) behind).next r ≡ true → lives_before live (lines ++ tail) exit r ≡ true
+  lines_before needed j [] tail exit behind r is k h t u w = k r u w
+  lines_before needed j (Put x z ∷ Compute to op kind left right ∷ lines) tail exit behind r is k h t u w =
+      let user : Line = Compute to op kind left right in
+      let is' = behind_tail by needed j (Put x z) (user ∷ (lines ++ tail)) exit is in
+      let h' = All-tail (IsPlacedLine statics f) (Put x z) (user ∷ (lines ++ tail)) h in
+      let t' = All-tail (LineThere functions) (Put x z) (user ∷ (lines ++ tail)) t in
+      word_cases (word_taken (needed (suc j)) x (word z) user)
+      (λ e. alone_before needed j (Put x z) (user ∷ lines) tail exit behind r e (λ v. lines_before needed (suc j) (Compute to op kind left right ∷ lines) tail exit behind r is' k h' t' u v)
+      (All-head (IsPlacedLine statics f) (Put x z) (user ∷ (lines ++ tail)) h) (All-head (LineThere functions) (Put x z) (user ∷ (lines ++ tail)) t) u w)
+      (λ n e. folded_before needed j x z to op kind left right lines tail exit behind r n e is
+      (λ v. lines_before needed (suc (suc j)) lines tail exit behind r (behind_tail by needed (suc j) user (lines ++ tail) exit is') k (All-tail (IsPlacedLine statics f) user (lines ++ tail) h') (All-tail (LineThere functions) user (lines ++ tail) t') u v) u w)
+  lines_before needed j (line ∷ lines) tail exit behind r is k h t u w =
+      alone_before needed j line lines tail exit behind r refl
+      (λ v. lines_before needed (suc j) lines tail exit behind r (behind_tail by needed j line (lines ++ tail) exit is) k (All-tail (IsPlacedLine statics f) line (lines ++ tail) h) (All-tail (LineThere functions) line (lines ++ tail) t) u v)
+      (All-head (IsPlacedLine statics f) line (lines ++ tail) h) (All-head (LineThere functions) line (lines ++ tail) t) u w
 
   abbrev Saves : ℕ → List Line → Exit → Type 0
   Saves n rest exit = (4 ≤ n) × (n ≤ 31) × ((r : ℕ) → lives_before live rest exit r ≡ true → r ≤ n)
@@ -461,21 +540,44 @@ module _ (functions : List Function) (statics first count frame : ℕ) (f : Func
       (λ e r w. returned_of r (elim (or_unsaved ((is_base r ≡ true) ⊎ (r ≡ 10)) r (λ u. s.0 tt r (k r u w))) [ inl a ↦ inl a | inr b ↦ b ]))
   line_sound n line rest exit behind k home s v = plain_sound at (line_code places n line) behind (work_plain places n line tt)
 
-  pub lines_sound : (j : ℕ) (lines tail : List Line) (exit : Exit) (behind : After) → ((s : ℕ) → IsUnsaved s → behind.next s ≡ true → lives_before live tail exit s ≡ true) → All (IsPlacedLine statics f) (lines ++ tail) → IsPlacedExit exit → All (LineThere functions) (lines ++ tail) → HoldsCalls live (lines ++ tail) exit → SavesFrom live m j (lines ++ tail) exit → AreSound at (lines_code places m j lines) behind
-  lines_sound j [] tail exit behind k h e t s v = tt
-  lines_sound j (line ∷ lines) tail exit behind k h e t s v =
+  alone_sound : (needed : ℕ → ℕ → Bool) (j : ℕ) (line : Line) (lines : List Line) (behind : After) → passed_by (needed (suc j)) line lines ≡ None → AreSound at (line_code places (m j) line) (scan at (lines_code places m needed None (suc j) lines) behind) → AreSound at (lines_code places m needed None (suc j) lines) behind → AreSound at (lines_code places m needed None j (line ∷ lines)) behind
+  alone_sound needed j line lines behind e one rest =
+      subst (λ (z : List CodeLine). AreSound at z behind) (sym (lines_alone places m needed j line lines e))
+      (sound_append at (line_code places (m j) line) (lines_code places m needed None (suc j) lines) behind one rest)
+
+  folded_sound : (needed : ℕ → ℕ → Bool) (j x : ℕ) (z : ℤ) (to : ℕ) (op : BinaryOp) (kind : Kind) (left right : ℕ) (lines : List Line) (behind : After) (n : ℕ) → word_taken (needed (suc j)) x (word z) (Compute to op kind left right) ≡ Some n → AreSound at (lines_code places m needed None (suc (suc j)) lines) behind → AreSound at (lines_code places m needed None j (Put x z ∷ Compute to op kind left right ∷ lines)) behind
+  folded_sound needed j x z to op kind left right lines behind n e rest =
+      let d = folds (needed (suc j)) x (word z) to op kind left right n e in
+      subst (λ (c : List CodeLine). AreSound at c behind) (sym (lines_paired places m needed j x z to op kind left right lines (word z) d.line (e ∙ ap Some d.same) d.is))
+      ((plain_sound at (plain_line d.line ∷ []) (scan at (lines_code places m needed None (suc (suc j)) lines) behind) ((immediate_way to op kind left (word z) d.line d.is, refl), tt)).0, rest)
+
+  pub lines_sound : (needed : ℕ → ℕ → Bool) (j : ℕ) (lines tail : List Line) (exit : Exit) (behind : After) → IsBehind by needed j (lines ++ tail) exit → ((s : ℕ) → IsUnsaved s → behind.next s ≡ true → lives_before live tail exit s ≡ true) → All (IsPlacedLine statics f) (lines ++ tail) → IsPlacedExit exit → All (LineThere functions) (lines ++ tail) → HoldsCalls live (lines ++ tail) exit → SavesFrom live m j (lines ++ tail) exit → AreSound at (lines_code places m needed None j lines) behind
+  lines_sound needed j [] tail exit behind is k h e t s v = tt
+  lines_sound needed j (Put x z ∷ Compute to op kind left right ∷ lines) tail exit behind is k h e t s v =
+      let user : Line = Compute to op kind left right in
+      let is' = behind_tail by needed j (Put x z) (user ∷ (lines ++ tail)) exit is in
+      let h' = All-tail (IsPlacedLine statics f) (Put x z) (user ∷ (lines ++ tail)) h in
+      let t' = All-tail (LineThere functions) (Put x z) (user ∷ (lines ++ tail)) t in
+      word_cases (word_taken (needed (suc j)) x (word z) user)
+      (λ a. alone_sound needed j (Put x z) (user ∷ lines) behind a
+      (plain_sound at (line_code places (m j) (Put x z)) (scan at (lines_code places m needed None (suc j) (user ∷ lines)) behind) (work_plain places (m j) (Put x z) tt))
+      (lines_sound needed (suc j) (Compute to op kind left right ∷ lines) tail exit behind is' k h' e t' s.1 v.1))
+      (λ n a. folded_sound needed j x z to op kind left right lines behind n a
+      (lines_sound needed (suc (suc j)) lines tail exit behind (behind_tail by needed (suc j) user (lines ++ tail) exit is') k (All-tail (IsPlacedLine statics f) user (lines ++ tail) h') e (All-tail (LineThere functions) user (lines ++ tail) t') s.1.1 v.1.1))
+  lines_sound needed j (line ∷ lines) tail exit behind is k h e t s v =
+      let is' = behind_tail by needed j line (lines ++ tail) exit is in
       let h' = All-tail (IsPlacedLine statics f) line (lines ++ tail) h in
       let t' = All-tail (LineThere functions) line (lines ++ tail) t in
-      sound_append at (line_code places (m j) line) (lines_code places m (suc j) lines) behind
-      (line_sound (m j) line (lines ++ tail) exit (scan at (lines_code places m (suc j) lines) behind) (λ r u w. lines_before (suc j) lines tail exit behind r k h' t' u w) (λ r w. lives_home statics f live (lines ++ tail) exit r homes h' e w) s v.0)
-      (lines_sound (suc j) lines tail exit behind k h' e t' s.1 v.1)
+      alone_sound needed j line lines behind refl
+      (line_sound (m j) line (lines ++ tail) exit (scan at (lines_code places m needed None (suc j) lines) behind) (λ r u w. lines_before needed (suc j) lines tail exit behind r is' k h' t' u w) (λ r w. lives_home statics f live (lines ++ tail) exit r homes h' e w) s v.0)
+      (lines_sound needed (suc j) lines tail exit behind is' k h' e t' s.1 v.1)
 
   -- a block
   abbrev pub body : Option ℕ → List Line → Exit → List CodeLine
-  body next lines exit = taking_code places m distance next first frame (taken_test by lines exit) lines exit
+  body next lines exit = taking_code places m (behind_each by lines exit) distance next first frame (taken_test by lines exit) lines exit
 
   abbrev own_code : List Line → Exit → List CodeLine
-  own_code lines exit = lines_code places m 0 (own_lines (taken_test by lines exit) lines)
+  own_code lines exit = lines_code places m (behind_each by lines exit) None 0 (own_lines (taken_test by lines exit) lines)
 
   abbrev ends : Option ℕ → List Line → Exit → List CodeLine
   ends next lines exit = exit_code distance next (is_empty (own_code lines exit)) first frame (taken_test by lines exit) exit
@@ -483,18 +585,21 @@ module _ (functions : List Function) (statics first count frame : ℕ) (f : Func
   exit_meets : (next : Option ℕ) (lines : List Line) (exit : Exit) (behind : After) → Meets at next behind → IsPlacedExit exit → ExitThere count exit → (r : ℕ) → IsUnsaved r → (scan at (ends next lines exit) behind).next r ≡ true → lives_before live (parted by lines exit).tail exit r ≡ true
   exit_meets next lines exit behind meets e there r u w = tail_before next (is_empty (own_code lines exit)) (parted by lines exit).tail exit (taken_test by lines exit) behind r (parted by lines exit).is meets e there u w
 
+  own_behind : (lines : List Line) (exit : Exit) → IsBehind by (behind_each by lines exit) 0 (own_lines (taken_test by lines exit) lines ++ (parted by lines exit).tail) exit
+  own_behind lines exit = subst (λ (z : List Line). IsBehind by (behind_each by lines exit) 0 z exit) (sym (parted by lines exit).whole) (λ i r. (let q : i + 0 ≡ i = omega arith in ap (λ z. behind_each by lines exit z r) q))
+
   pub body_before : (next : Option ℕ) (lines : List Line) (exit : Exit) (behind : After) (r : ℕ) → Meets at next behind → All (IsPlacedLine statics f) lines → IsPlacedExit exit → All (LineThere functions) lines → ExitThere count exit → IsUnsaved r → (scan at (body next lines exit) behind).next r ≡ true → lives_before live lines exit r ≡ true
   body_before next lines exit behind r meets h e t there u w =
       let k = parted by lines exit in
       subst (λ (z : List Line). lives_before live z exit r ≡ true) k.whole
-      (lines_before 0 (own_lines (taken_test by lines exit) lines) k.tail exit (scan at (ends next lines exit) behind) r (exit_meets next lines exit behind meets e there) (subst (All (IsPlacedLine statics f)) (sym k.whole) h) (subst (All (LineThere functions)) (sym k.whole) t) u
+      (lines_before (behind_each by lines exit) 0 (own_lines (taken_test by lines exit) lines) k.tail exit (scan at (ends next lines exit) behind) r (own_behind lines exit) (exit_meets next lines exit behind meets e there) (subst (All (IsPlacedLine statics f)) (sym k.whole) h) (subst (All (LineThere functions)) (sym k.whole) t) u
       (sym (ap (λ (z : After). z.next r) (scan_append at (own_code lines exit) (ends next lines exit) behind)) ∙ w))
 
   pub body_sound : (next : Option ℕ) (lines : List Line) (exit : Exit) (behind : After) → Meets at next behind → All (IsPlacedLine statics f) lines → IsPlacedExit exit → All (LineThere functions) lines → ExitThere count exit → HoldsCalls live lines exit → SavesFrom live m 0 lines exit → AreSound at (body next lines exit) behind
   body_sound next lines exit behind meets h e t there s saves =
       let k = parted by lines exit in
       sound_append at (own_code lines exit) (ends next lines exit) behind
-      (lines_sound 0 (own_lines (taken_test by lines exit) lines) k.tail exit (scan at (ends next lines exit) behind) (exit_meets next lines exit behind meets e there)
+      (lines_sound (behind_each by lines exit) 0 (own_lines (taken_test by lines exit) lines) k.tail exit (scan at (ends next lines exit) behind) (own_behind lines exit) (exit_meets next lines exit behind meets e there)
       (subst (All (IsPlacedLine statics f)) (sym k.whole) h) e (subst (All (LineThere functions)) (sym k.whole) t)
       (subst (λ (z : List Line). HoldsCalls live z exit) (sym k.whole) s) (subst (λ (z : List Line). SavesFrom live m 0 z exit) (sym k.whole) saves))
       (exit_sound next (is_empty (own_code lines exit)) (taken_test by lines exit) exit behind)

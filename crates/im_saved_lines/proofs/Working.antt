@@ -1,14 +1,18 @@
 -- A line that is neither a cut nor a call: selected, it uses and sets what it does in placed code, beside registers that each cut saves.
-use Rattle.std.proofs.Common.{◌≡◌, ◌≢◌, ℕ, ◌⊎◌, inl, inr, Bool, true, false, [], ◌∷◌, ◌++◌, Option, Some, None, refl, ap, ◌∙◌}
-use Rattle.std.specs.Prelude.{◌==◌, ◌||◌, if◌then◌else◌}
+use Rattle.std.proofs.Common.{◌≡◌, ◌≢◌, ℕ, ◌⊎◌, inl, inr, Bool, true, false, [], ◌∷◌, ◌++◌, Option, Some, None, refl, ap, ◌∙◌, subst}
+use Rattle.std.specs.Prelude.{◌==◌, ◌||◌, nat_lt, if◌then◌else◌}
 use Rattle.im_num.specs.declared.kind.Kind.{Kind}
 use Rattle.im_num.specs.declared.kind.Kind.TheVariants.{I8, U8, I16, U16, I32, U32, Ptr}
-use Rattle.im_num.specs.Kinds.{word}
-use Rattle.im_rv.specs.declared.instr.Op.TheVariants.{Srli, Srai}
+use Rattle.im_num.specs.Kinds.{is_signed, word}
+use Rattle.im_rv.specs.declared.instr.Op.{Op}
+use Rattle.im_rv.specs.declared.instr.Op.TheVariants.{Addi, Xori, Ori, Andi, Slli, Srli, Srai}
+use Rattle.im_rv.specs.Decode.{Line as Instruction}
 use Rattle.im_rv.specs.Lines.{plain_line}
-use Rattle.im_rv_reach.specs.Instructions.{on_registers, upper}
+use Rattle.im_rv_reach.specs.Instructions.{with_immediate, on_registers, upper}
 use Rattle.im_gap.specs.declared.flow.Turn.TheVariants.{Passes}
-use Rattle.im_select_operators.specs.Tables.{less_op}
+use Rattle.im_select_operators.specs.Tables.{by_sign, less_op}
+use Rattle.im_store.specs.declared.operators.BinaryOp.{BinaryOp}
+use Rattle.im_store.specs.declared.operators.BinaryOp.TheVariants.{Add, Subtract, BitAnd, BitOr, BitXor, ShiftLeft, ShiftRight}
 use Rattle.im_store.specs.declared.operators.UnaryOp.TheVariants.{Negate, Complement}
 use Rattle.im_store.specs.declared.operators.Comparison.{Comparison}
 use Rattle.im_store.specs.declared.operators.Comparison.TheVariants.{Less, Greater, LessOrEqual, GreaterOrEqual, Equal, NotEqual}
@@ -18,7 +22,7 @@ use Rattle.im_block.specs.declared.code.Place.TheVariants.{Static, Local, Throug
 use Rattle.im_block.specs.declared.code.Line.{Line}
 use Rattle.im_block.specs.declared.code.Line.TheVariants.{Put, PutNull, Copy, Convert, Unary, Not, Compute, Compare, Move, Distance, Address, Read, Write, Reload, Spill, Cut, Call, Serve}
 use Rattle.im_alloc_relation.specs.Live.{uses, sets, place_uses}
-use Rattle.im_select.specs.Emitted.{high_of, low_of, constant_code, displaced_code, displaced_base, place_number, place_code, place_base, moved_code, copied_code, compared_code, shifted_code, step_op, shift_of, multiplied_code, shifts_code, scaled_code, pointer_code, based_code, address_code, line_code}
+use Rattle.im_select.specs.Emitted.{high_of, low_of, constant_code, displaced_code, displaced_base, place_number, place_code, place_base, moved_code, copied_code, compared_code, shifted_code, step_op, shift_of, multiplied_code, shifts_code, scaled_code, pointer_code, based_code, address_code, computed_code, by_low, by_bits, negated, immediate_line, by_or, way_code, line_code}
 use Rattle.im_saved_lines.specs.Scan.{way}
 use Rattle.im_saved_lines.proofs.Scanning.{IsUnsaved, unsaved_not, other_is, or_left, or_right, same_of, same_is, ArePlain, plain_append, Wants, wants_append}
 use Rattle.im_saved_lines.proofs.Plain.{operation_way, less_way, load_way, store_way, step_way, constant_plain, constant_wants, displaced_plain, displaced_wants, place_plain, place_wants}
@@ -103,6 +107,44 @@ work_plain at m (Cut cause) work = absurd work
 work_plain at m (Call to i first count) work = absurd work
 work_plain at m (Serve to service None) work = absurd work
 work_plain at m (Serve to service (Some from)) work = absurd work
+
+-- ---- with an immediate
+
+low_way : (op : Op) (to left n : ℕ) (l : Instruction) → way op ≡ Passes → by_low op to left n ≡ Some l → way l.op ≡ Passes
+low_way op to left n l w = by (high_of n == 0)
+  where
+    by : (b : Bool) → (if b then Some (with_immediate op to left (low_of n)) else None) ≡ Some l → way l.op ≡ Passes
+    by true e = let s : with_immediate op to left (low_of n) ≡ l = cc in subst (λ (x : Instruction). way x.op ≡ Passes) s w
+    by false e = absurd cc
+
+bits_way : (op : Op) (to left n : ℕ) (l : Instruction) → way op ≡ Passes → by_bits op to left n ≡ Some l → way l.op ≡ Passes
+bits_way op to left n l w = by (nat_lt n 32)
+  where
+    by : (b : Bool) → (if b then Some (with_immediate op to left n) else None) ≡ Some l → way l.op ≡ Passes
+    by true e = let s : with_immediate op to left n ≡ l = cc in subst (λ (x : Instruction). way x.op ≡ Passes) s w
+    by false e = absurd cc
+
+pub immediate_way : (to : ℕ) (op : BinaryOp) (kind : Kind) (left n : ℕ) (l : Instruction) → immediate_line to op kind left n ≡ Some l → way l.op ≡ Passes
+immediate_way to Add kind left n l e = low_way Addi to left n l refl e
+immediate_way to Subtract kind left n l e = low_way Addi to left (negated n) l refl e
+immediate_way to BitAnd kind left n l e = low_way Andi to left n l refl e
+immediate_way to BitOr kind left n l e = low_way Ori to left n l refl e
+immediate_way to BitXor kind left n l e = low_way Xori to left n l refl e
+immediate_way to ShiftLeft kind left n l e = bits_way Slli to left n l refl e
+immediate_way to ShiftRight kind left n l e = bits_way (by_sign kind Srai Srli) to left n l (srl_way (is_signed kind)) e
+immediate_way to op kind left n l e = absurd cc
+
+-- whatever it takes and passes on
+pub way_plain : (at : Name → ℕ) (m : ℕ) (passed before : Option ℕ) (line : Line) → IsWork line → ArePlain (way_code at m passed before line)
+way_plain at m None before (Put to z) work = work_plain at m (Put to z) work
+way_plain at m (Some n) before (Put to z) work = tt
+way_plain at m passed None (Compute to op kind left right) work = work_plain at m (Compute to op kind left right) work
+way_plain at m passed (Some n) (Compute to op kind left right) work = by (immediate_line to op kind left n) refl
+  where
+    by : (o : Option Instruction) → immediate_line to op kind left n ≡ o → ArePlain (by_or (computed_code to op kind left right) o)
+    by None e = ((operation_way op kind, refl), tt)
+    by (Some l) e = ((immediate_way to op kind left n l e, refl), tt)
+way_plain at m passed before line work = work_plain at m line work
 
 -- ---- what they want
 

@@ -4,6 +4,7 @@ use Rattle.std.specs.Prelude.{◌==◌, ◌&&◌, not, if◌then◌else◌, slic
 use Rattle.im_num.specs.declared.kind.Kind.TheVariants.{I8, U8, I16, U16, I32, U32, Ptr}
 use Rattle.im_num.specs.Kinds.{word}
 use Rattle.im_rv.specs.declared.instr.Op.TheVariants.{Jalr, Lw, Sw, Addi, Add as AddOp, Mul, Div}
+use Rattle.im_rv.specs.Decode.{Line as Instruction}
 use Rattle.im_rv.specs.Lines.{CodeLine, plain_line}
 use Rattle.im_rv_reach.specs.Instructions.{with_immediate, on_registers, storing, upper}
 use Rattle.im_select_operators.specs.Tables.{load_op, store_op}
@@ -25,7 +26,7 @@ use Rattle.im_alloc_placed.specs.Apart.{CutsApart}
 use Rattle.im_select.specs.declared.branching.Test.{Test}
 use Rattle.im_select.specs.declared.distance.Distance.{Distance}
 use Rattle.im_select.specs.declared.distance.Distance.TheVariants.{Near, Far}
-use Rattle.im_select.specs.Emitted.{high_of, low_of, constant_by, constant_code, displaced_by, displaced_code, displaced_base, step_op, adds_by, adds_code, place_number, place_code, place_base, moved_code, copied_code, shift_of, shifts_code, scaled_code, scaled_register, based_code, address_code, line_code, lines_code, onward_code, test_code, test_or, taken_test, own_lines, is_next, branch_code, exit_code, is_empty, ended_code, block_code, Laying, next_label, found_code, laid_block, laid_code, laid_order, blocks_code, enter_code, prologue_code, function_code, labelled, entry_label}
+use Rattle.im_select.specs.Emitted.{high_of, low_of, constant_by, constant_code, displaced_by, displaced_code, displaced_base, step_op, adds_by, adds_code, place_number, place_code, place_base, moved_code, copied_code, shift_of, shifts_code, scaled_code, scaled_register, based_code, address_code, computed_code, immediate_line, passed_by, by_or, way_code, line_code, lines_code, behind_each, onward_code, test_code, test_or, taken_test, own_lines, is_next, branch_code, exit_code, is_empty, ended_code, block_code, Laying, next_label, found_code, laid_block, laid_code, laid_order, blocks_code, enter_code, prologue_code, function_code, labelled, entry_label}
 use Rattle.im_select.proofs.Taking.{takes}
 use Rattle.im_select.proofs.Ordering.{cost_found, cost_in, order_cost}
 use Rattle.im_select.proofs.Plain.{length_labelled}
@@ -123,26 +124,39 @@ few at m (Call to i first count) h = omega arith
 few at m (Serve to service None) h = omega arith
 few at m (Serve to service (Some from)) h = omega arith
 
--- a cut is paid by what stands behind it
-pub record Paid (at : Name → ℕ) (m : ℕ → ℕ) (j : ℕ) (lines : List Line) : Type 0 where
-  pub most : length (lines_code at m j lines) ≤ sum_of with_cut lines + 1
-  pub own : (StartsWithCut lines → ⊥) → length (lines_code at m j lines) ≤ sum_of with_cut lines
+-- whatever it takes and passes on
+pub way_few : (at : Name → ℕ) (m : ℕ) (passed before : Option ℕ) (line : Line) → (StartsWithCut (line ∷ []) → ⊥) → length (way_code at m passed before line) + 1 ≤ with_cut line
+way_few at m None before (Put to z) h = few at m (Put to z) h
+way_few at m (Some n) before (Put to z) h = omega arith
+way_few at m passed None (Compute to op kind left right) h = few at m (Compute to op kind left right) h
+way_few at m passed (Some n) (Compute to op kind left right) h = by (immediate_line to op kind left n)
+  where
+    by : (o : Option Instruction) → length (by_or (computed_code to op kind left right) o) + 1 ≤ with_cut (Compute to op kind left right)
+    by None = omega arith
+    by (Some l) = omega arith
+way_few at m passed before line h = few at m line h
 
-behind : (at : Name → ℕ) (m : ℕ → ℕ) (j : ℕ) (line : Line) (rest : List Line) → (StartsWithCut (line ∷ []) → ⊥) → Paid at m (suc j) rest → Paid at m j (line ∷ rest)
-behind at m j line rest h p =
-    let q = few at (m j) line h in
-    let e = length-append (line_code at (m j) line) (lines_code at m (suc j) rest) in
+-- a cut is paid by what stands behind it
+pub record Paid (at : Name → ℕ) (m : ℕ → ℕ) (needed : ℕ → ℕ → Bool) (before : Option ℕ) (j : ℕ) (lines : List Line) : Type 0 where
+  pub most : length (lines_code at m needed before j lines) ≤ sum_of with_cut lines + 1
+  pub own : (StartsWithCut lines → ⊥) → length (lines_code at m needed before j lines) ≤ sum_of with_cut lines
+
+behind : (at : Name → ℕ) (m : ℕ → ℕ) (needed : ℕ → ℕ → Bool) (before : Option ℕ) (j : ℕ) (line : Line) (rest : List Line) → (StartsWithCut (line ∷ []) → ⊥) → Paid at m needed (passed_by (needed (suc j)) line rest) (suc j) rest → Paid at m needed before j (line ∷ rest)
+behind at m needed before j line rest h p =
+    let passed : Option ℕ = passed_by (needed (suc j)) line rest in
+    let q = way_few at (m j) passed before line h in
+    let e = length-append (way_code at (m j) passed before line) (lines_code at m needed passed (suc j) rest) in
     let o = p.most in
     record { most = omega arith; own = λ n. omega arith }
 
-pub paid : (at : Name → ℕ) (m : ℕ → ℕ) (j : ℕ) (lines : List Line) → CutsApart lines → Paid at m j lines
-paid at m j [] h = record { most = omega arith; own = λ n. omega arith }
-paid at m j (Cut cause ∷ rest) h =
-    let p = paid at m (suc j) rest h.1 in
+pub paid : (at : Name → ℕ) (m : ℕ → ℕ) (needed : ℕ → ℕ → Bool) (before : Option ℕ) (j : ℕ) (lines : List Line) → CutsApart lines → Paid at m needed before j lines
+paid at m needed before j [] h = record { most = omega arith; own = λ n. omega arith }
+paid at m needed before j (Cut cause ∷ rest) h =
+    let p = paid at m needed None (suc j) rest h.1 in
     let o = p.own h.0 in
-    let e = length-append (line_code at (m j) (Cut cause)) (lines_code at m (suc j) rest) in
+    let e = length-append (line_code at (m j) (Cut cause)) (lines_code at m needed None (suc j) rest) in
     record { most = omega arith; own = λ n. absurd (n tt) }
-paid at m j (line ∷ rest) h = behind at m j line rest (λ n. n) (paid at m (suc j) rest h)
+paid at m needed before j (line ∷ rest) h = behind at m needed before j line rest (λ n. n) (paid at m needed (passed_by (needed (suc j)) line rest) (suc j) rest h)
 
 onward_few : (falls : Bool) (label : ℕ) → length (onward_code falls label) ≤ 1
 onward_few true label = omega arith
@@ -208,11 +222,12 @@ block_few at m live distance next first frame b block h =
     let taken : Option Test = taken_test live block.lines.items block.exit in
     let own : List Line = own_lines taken block.lines.items in
     let t = takes live block.lines.items block.exit in
-    let p = paid at m 0 own (apart_left own t.tail (subst CutsApart (sym t.whole) h)) in
+    let needed : ℕ → ℕ → Bool = behind_each live block.lines.items block.exit in
+    let p = paid at m needed None 0 own (apart_left own t.tail (subst CutsApart (sym t.whole) h)) in
     let o = p.most in
     let s = sum_left with_cut own t.tail in
     let w = ap (sum_of with_cut) t.whole in
-    let lines : List CodeLine = lines_code at m 0 own in
+    let lines : List CodeLine = lines_code at m needed None 0 own in
     let exit : List CodeLine = exit_code distance next (is_empty lines) first frame taken block.exit in
     let q = exit_few distance next (is_empty lines) first frame taken block.exit in
     let e = length-append lines exit in

@@ -1,5 +1,5 @@
 -- Blocks as they are laid: where each begins, and that what is put for a function is what may stand for it.
-use Rattle.std.proofs.Common.{◌≡◌, ◌<◌, inl, inr, ℕ, ◌+◌, ◌^◌, Bool, false, List, [], ◌∷◌, Option, Some, length, refl, sym, ap, ◌∙◌, subst, arith}
+use Rattle.std.proofs.Common.{◌≡◌, ◌<◌, inl, inr, ℕ, ◌+◌, ◌^◌, Bool, false, List, [], ◌∷◌, ◌++◌, Option, Some, None, length, refl, sym, ap, ◌∙◌, subst, arith}
 use Rattle.std.specs.Prelude.{◌==◌, if◌then◌else◌, slice_get}
 use Rattle.std.proofs.lemmas.Option.{slice_get_within}
 use Rattle.im_rv.specs.Lines.{CodeLine}
@@ -11,13 +11,13 @@ use Rattle.im_select_relation.specs.Symbolic.{Lines, StandsIn, IsSelected}
 use Rattle.im_live.specs.Reads.{IsLive}
 use Rattle.im_select.specs.declared.branching.Test.{Test}
 use Rattle.im_select.specs.declared.distance.Distance.{Distance}
-use Rattle.im_select.specs.Emitted.{labelled, is_empty, lines_code, taken_test, own_lines, ended_code, Laying, next_label, found_code, laid_block, laid_code, laid_order, others_below, prologue_code, function_code, entry_label}
+use Rattle.im_select.specs.Emitted.{labelled, is_empty, lines_code, behind_each, taken_test, own_lines, ended_code, Laying, next_label, found_code, laid_block, laid_code, laid_order, others_below, prologue_code, function_code, entry_label}
 use Rattle.im_select.specs.Given.{Given}
 use Rattle.im_select.specs.Selects.{Agrees, IsClosedBlock, laying_of}
 use Rattle.im_select.proofs.Ordering.{Among, Distinct, itself, order_distinct, order_all}
 use Rattle.im_select.proofs.Standing.{At, after, after_labelled, at_left, at_right, at_labelled}
 use Rattle.im_select.proofs.Taking.{takes}
-use Rattle.im_select.proofs.Parts.{Follows, Alike, IsBlockOf, stands_in, prologue_in}
+use Rattle.im_select.proofs.Parts.{Follows, Alike, IsBlockOf, IsBehind, stands_in, prologue_in}
 
 -- where each block begins, the first of these at line k
 abbrev pub starts_in : Laying → ℕ → List ℕ → ℕ → ℕ
@@ -66,14 +66,17 @@ laid_in w given live distance starts k x rest block o is g small alike h e begin
     let taken : Option Test = taken_test live block.lines.items block.exit in
     let own : List Line = own_lines taken block.lines.items in
     let t = takes live block.lines.items block.exit in
-    let lines : List CodeLine = lines_code laying.at (laying.cut x) 0 own in
+    let needed : ℕ → ℕ → Bool = behind_each live block.lines.items block.exit in
+    let lines : List CodeLine = lines_code laying.at (laying.cut x) needed None 0 own in
     let body : List CodeLine = ended_code distance next given.first_block given.layout.frame taken lines block.exit in
     let same : laid_block laying x rest ≡ labelled (given.first_block + x) body = ap (found_code laying x next) e in
     let there : At w k body = at_labelled w k (given.first_block + x) body (subst (At w k) same a) in
     let follows : Follows given starts next (after k body) =
     subst (Follows given starts next) (ap (after k) same ∙ after_labelled k (given.first_block + x) body) (next_begins given live distance starts (after k (laid_block laying x rest)) rest begins) in
+    let behind : IsBehind live needed 0 (own ++ t.tail) block.exit =
+    subst (λ (z : List Line). IsBehind live needed 0 z block.exit) (sym t.whole) (λ i r. (let q : i + 0 ≡ i = omega arith in ap (λ z. needed z r) q)) in
     subst (λ (z : List Line). StandsIn w given.function.blocks.items starts given.layout.frame k z block.exit) t.whole
-    (stands_in w given live starts laying.at (laying.cut x) distance next (is_empty lines) 0 k given.layout.frame own t.tail block.exit taken (o x) is g small alike (subst (λ (z : List Line). IsBlockOf given z block.exit) (sym t.whole) h) t.is follows there)
+    (stands_in w given live starts laying.at (laying.cut x) needed distance next (is_empty lines) given.layout.frame t.tail block.exit taken (o x) is g small alike t.is 0 k own behind (subst (λ (z : List Line). IsBlockOf given z block.exit) (sym t.whole) h) follows there)
 
 blocks_in : (w : Lines) (given : Given) (live : ℕ → ℕ → Bool) (distance : Distance) (starts : ℕ → ℕ) (k : ℕ) (order : List ℕ) →
     ((b j : ℕ) → IsEntry ((laying_of given live distance).cut b j)) → IsLive given.function.blocks.items live → Agrees w given → given.layout.frame < 2 ^ 32 → Alike (laying_of given live distance).at w.at (length given.statics) given.function → AreBlocks given →

@@ -6,7 +6,8 @@ use Rattle.im_num.specs.declared.kind.Kind.TheVariants.{I8, U8, I16, U16, I32, U
 use Rattle.im_num.specs.Kinds.{word}
 use Rattle.im_rv.specs.declared.instr.Op.TheVariants.{Jal}
 use Rattle.im_rv.specs.Formats.{format_of}
-use Rattle.im_rv.specs.Lines.{CodeLine}
+use Rattle.im_rv.specs.Decode.{Line as Instruction}
+use Rattle.im_rv.specs.Lines.{CodeLine, plain_line}
 use Rattle.im_store.specs.declared.operators.UnaryOp.TheVariants.{Negate, Complement}
 use Rattle.im_store.specs.declared.operators.Comparison.TheVariants.{Less, Greater, LessOrEqual, GreaterOrEqual, Equal, NotEqual}
 use Rattle.im_store.specs.Objects.{Name, Slot}
@@ -21,7 +22,7 @@ use Rattle.im_select.specs.Given.{Given}
 use Rattle.im_select.specs.declared.branching.Test.{Test}
 use Rattle.im_select.specs.declared.distance.Distance.{Distance}
 use Rattle.im_select.specs.declared.distance.Distance.TheVariants.{Near, Far}
-use Rattle.im_select.specs.Emitted.{constant_code, displaced_code, adds_code, place_number, place_code, copied_code, scaled_code, address_code, call_code, line_code, lines_code, leave_code, result_code, onward_code, test_op, test_code, test_or, taken_test, own_lines, taking_code, is_next, branch_code, exit_code, is_empty, Laying, next_label, found_code, laid_block, laid_code, laid_order, blocks_code, enter_code, prologue_code, function_code, labelled, entry_label}
+use Rattle.im_select.specs.Emitted.{constant_code, displaced_code, adds_code, place_number, place_code, copied_code, scaled_code, address_code, call_code, computed_code, immediate_line, passed_by, by_or, way_code, line_code, lines_code, behind_each, leave_code, result_code, onward_code, test_op, test_code, test_or, taken_test, own_lines, taking_code, is_next, branch_code, exit_code, is_empty, Laying, next_label, found_code, laid_block, laid_code, laid_order, blocks_code, enter_code, prologue_code, function_code, labelled, entry_label}
 use Rattle.im_select_relation.specs.Selected.{IsEntry}
 use Rattle.im_select.specs.Places.{CallsBelow}
 use Rattle.im_select.specs.Selects.{HasLabel, IsTarget, IsNear, LeadsTo, IsClosedBlock, laying_of}
@@ -86,9 +87,22 @@ line_sound names whole at m (Serve to Getchar (Some from)) o h = ((refl, tt), ((
 line_sound names whole at m (Serve to Putchar None) o h = ((refl, tt), ((λ l e. leads names whole 33 _ refl (inr (inr (inl refl))) l e), tt))
 line_sound names whole at m (Serve to Putchar (Some from)) o h = ((refl, tt), ((λ l e. leads names whole 33 _ refl (inr (inr (inl refl))) l e), tt))
 
-lines_sound : (names : Given) (whole : List CodeLine) (at : Name → ℕ) (m : ℕ → ℕ) (j : ℕ) (lines : List Line) → ((j : ℕ) → IsEntry (m j)) → All (CallsBelow names.functions) lines → Sound names whole (lines_code at m j lines)
-lines_sound names whole at m j [] o h = (tt, tt)
-lines_sound names whole at m j (line ∷ lines) o h = both names whole (line_code at (m j) line) (lines_code at m (suc j) lines) (line_sound names whole at (m j) line (o j) (All-head (CallsBelow names.functions) line lines h)) (lines_sound names whole at m (suc j) lines o (All-tail (CallsBelow names.functions) line lines h))
+way_sound : (names : Given) (whole : List CodeLine) (at : Name → ℕ) (m : ℕ) (passed before : Option ℕ) (line : Line) → IsEntry m → CallsBelow names.functions line → Sound names whole (way_code at m passed before line)
+way_sound names whole at m None before (Put to z) o h = line_sound names whole at m (Put to z) o h
+way_sound names whole at m (Some n) before (Put to z) o h = (tt, tt)
+way_sound names whole at m passed None (Compute to op kind left right) o h = line_sound names whole at m (Compute to op kind left right) o h
+way_sound names whole at m passed (Some n) (Compute to op kind left right) o h = by (immediate_line to op kind left n)
+  where
+    by : (o : Option Instruction) → Sound names whole (by_or (computed_code to op kind left right) o)
+    by None = bare names whole (computed_code to op kind left right) (refl, tt)
+    by (Some l) = bare names whole (plain_line l ∷ []) (refl, tt)
+way_sound names whole at m passed before line o h = line_sound names whole at m line o h
+
+lines_sound : (names : Given) (whole : List CodeLine) (at : Name → ℕ) (m : ℕ → ℕ) (needed : ℕ → ℕ → Bool) (before : Option ℕ) (j : ℕ) (lines : List Line) → ((j : ℕ) → IsEntry (m j)) → All (CallsBelow names.functions) lines → Sound names whole (lines_code at m needed before j lines)
+lines_sound names whole at m needed before j [] o h = (tt, tt)
+lines_sound names whole at m needed before j (line ∷ lines) o h =
+    let passed : Option ℕ = passed_by (needed (suc j)) line lines in
+    both names whole (way_code at (m j) passed before line) (lines_code at m needed passed (suc j) lines) (way_sound names whole at (m j) passed before line (o j) (All-head (CallsBelow names.functions) line lines h)) (lines_sound names whole at m needed passed (suc j) lines o (All-tail (CallsBelow names.functions) line lines h))
 
 block_target : (names : Given) (b : ℕ) → b < length names.function.blocks.items → IsTarget names (names.first_block + b)
 block_target names b h = inr (inr (inr (inr (inr (b, h, refl)))))
@@ -136,7 +150,7 @@ pub record IsKnown (names : Given) (live : ℕ → ℕ → Bool) (distance : Dis
 
 -- the body of a block, before it has its label
 abbrev pub body : Laying → ℕ → Option ℕ → Block → List CodeLine
-body laying b next block = taking_code laying.at (laying.cut b) laying.distance next laying.first laying.frame (taken_test laying.live block.lines.items block.exit) block.lines.items block.exit
+body laying b next block = taking_code laying.at (laying.cut b) (behind_each laying.live block.lines.items block.exit) laying.distance next laying.first laying.frame (taken_test laying.live block.lines.items block.exit) block.lines.items block.exit
 
 body_sound : (names : Given) (live : ℕ → ℕ → Bool) (distance : Distance) (whole : List CodeLine) (b : ℕ) (next : Option ℕ) (block : Block) → IsKnown names live distance whole → IsClosedBlock names block → Sound names whole (body (laying_of names live distance) b next block)
 body_sound names live distance whole b next block k h =
@@ -144,8 +158,9 @@ body_sound names live distance whole b next block k h =
     let taken : Option Test = taken_test live block.lines.items block.exit in
     let own : List Line = own_lines taken block.lines.items in
     let t = takes live block.lines.items block.exit in
-    let lines : List CodeLine = lines_code laying.at (laying.cut b) 0 own in
-    both names whole lines (exit_code distance next (is_empty lines) names.first_block names.layout.frame taken block.exit) (lines_sound names whole laying.at (laying.cut b) 0 own (k.entries b) (all_left (CallsBelow names.functions) own t.tail (subst (All (CallsBelow names.functions)) (sym t.whole) h.calls))) (exit_sound names whole distance next (is_empty lines) names.layout.frame taken block.exit k.few h.edges)
+    let needed : ℕ → ℕ → Bool = behind_each live block.lines.items block.exit in
+    let lines : List CodeLine = lines_code laying.at (laying.cut b) needed None 0 own in
+    both names whole lines (exit_code distance next (is_empty lines) names.first_block names.layout.frame taken block.exit) (lines_sound names whole laying.at (laying.cut b) needed None 0 own (k.entries b) (all_left (CallsBelow names.functions) own t.tail (subst (All (CallsBelow names.functions)) (sym t.whole) h.calls))) (exit_sound names whole distance next (is_empty lines) names.layout.frame taken block.exit k.few h.edges)
 
 found_lead : (names : Given) (live : ℕ → ℕ → Bool) (distance : Distance) (whole : List CodeLine) (b : ℕ) (next : Option ℕ) (block : Option Block) → IsKnown names live distance whole → ((x : Block) → block ≡ Some x → IsClosedBlock names x) → Lead names whole (found_code (laying_of names live distance) b next block)
 found_lead names live distance whole b next None k h = tt
@@ -212,7 +227,7 @@ pub record LabelThere (laying : Laying) (k : ℕ) (order : List ℕ) (b : ℕ) :
 
 found_has : (laying : Laying) (b : ℕ) (next : Option ℕ) (block : Option Block) (x : Block) → block ≡ Some x → HasLabel (found_code laying b next block) 0 (laying.first + b)
 found_has laying b next None x e = absurd cc
-found_has laying b next (Some block) x e = first_has (body laying b next block) (laying.first + b) (ended_some laying.distance next laying.first laying.frame (taken_test laying.live block.lines.items block.exit) (lines_code laying.at (laying.cut b) 0 (own_lines (taken_test laying.live block.lines.items block.exit) block.lines.items)) block.exit)
+found_has laying b next (Some block) x e = first_has (body laying b next block) (laying.first + b) (ended_some laying.distance next laying.first laying.frame (taken_test laying.live block.lines.items block.exit) (lines_code laying.at (laying.cut b) (behind_each laying.live block.lines.items block.exit) None 0 (own_lines (taken_test laying.live block.lines.items block.exit) block.lines.items)) block.exit)
 
 laid_there : (laying : Laying) (k : ℕ) (order : List ℕ) (b : ℕ) (block : Block) → Distinct order → Among order b → slice_get laying.blocks b ≡ Some block → LabelThere laying k order b
 laid_there laying k [] b block d a e = absurd a

@@ -6,6 +6,7 @@ pub mod Shifting
 pub mod Ordering
 pub mod Taking
 pub mod Selecting
+pub mod Pairing
 pub mod Low
 pub mod Parts
 pub mod Laid

@@ -1,26 +1,25 @@
 -- Lists of lines as they grow.
-use Rattle.std.proofs.Common.{◌≡◌, ℕ, zero, suc, ◌+◌, ◌<◌, ◌≤◌, List, [], ◌∷◌, ◌++◌, length, take, drop, get_or, refl, sym, ap, ◌∙◌, append_assoc, arith}
+use Rattle.std.proofs.Common.{◌≡◌, ℕ, suc, ◌+◌, ◌<◌, ◌≤◌, Bool, List, [], ◌∷◌, ◌++◌, Option, length, drop, get_or, refl, sym, ap, ◌∙◌, append_assoc, arith}
 use Rattle.std.proofs.lemmas.List.{append-nil, drop_more, drop_all}
 use Rattle.im_rv.specs.declared.code.Line.{Line as RustLine}
 use Rattle.im_rv.specs.Lines.{CodeLine, code_line, code_lines}
 use Rattle.im_store.specs.Objects.{Name}
 use Rattle.im_block.specs.declared.code.Line.{Line}
-use Rattle.im_select.specs.Emitted.{line_code, lines_code, Laying, laid_block, laid_code}
+use Rattle.im_select.specs.Emitted.{passed_by, way_code, lines_code, Laying, laid_block, laid_code}
 
-lines_more : (at : Name → ℕ) (m : ℕ → ℕ) (n : ℕ) (xs : List Line) (k : ℕ) (d : Line) → k < length xs → lines_code at m n (take (suc k) xs) ≡ lines_code at m n (take k xs) ++ line_code at (m (k + n)) (get_or xs k d)
-lines_more at m n [] k d l = absurd (omega arith)
-lines_more at m n (x ∷ xs) zero d l = let q : 0 + n ≡ n = omega arith in append-nil (line_code at (m n) x) ∙ ap (λ z. line_code at (m z) x) (sym q)
-lines_more at m n (x ∷ xs) (suc k) d l =
-    let q : k + suc n ≡ suc k + n = omega arith in
-    ap (λ z. line_code at (m n) x ++ z) (lines_more at m (suc n) xs k d (omega arith) ∙ ap (λ z. lines_code at m (suc n) (take k xs) ++ line_code at (m z) (get_or xs k d)) q)
-    ∙ sym (append_assoc (line_code at (m n) x) (lines_code at m (suc n) (take k xs)) (line_code at (m (suc k + n)) (get_or xs k d)))
+-- a line is put, and the others are left
+pub lines_grown : (at : Name → ℕ) (m : ℕ → ℕ) (needed : ℕ → ℕ → Bool) (before passed : Option ℕ) (old now new : List CodeLine) (xs : List Line) (k : ℕ) (d : Line) → k < length xs → now ++ lines_code at m needed before k (drop k xs) ≡ old → passed ≡ passed_by (needed (k + 1)) (get_or xs k d) (drop (k + 1) xs) → new ≡ now ++ way_code at (m k) passed before (get_or xs k d) → new ++ lines_code at m needed passed (k + 1) (drop (k + 1) xs) ≡ old
+lines_grown at m needed before passed old now new xs k d l a e b =
+    let line : Line = get_or xs k d in
+    let rest : List Line = drop (k + 1) xs in
+    let q : k + 1 ≡ suc k = omega arith in
+    let own : List CodeLine = way_code at (m k) passed before line in
+    ap (λ z. z ++ lines_code at m needed passed (k + 1) rest) b ∙ append_assoc now own (lines_code at m needed passed (k + 1) rest) ∙ ap (λ z. now ++ (own ++ lines_code at m needed passed z rest)) q
+    ∙ ap (λ z. now ++ (way_code at (m k) z before line ++ lines_code at m needed z (suc k) rest)) (e ∙ ap (λ z. passed_by (needed z) line rest) q)
+    ∙ ap (λ z. now ++ lines_code at m needed before k z) (sym (drop_more xs k d l)) ∙ a
 
-pub lines_grown : (at : Name → ℕ) (m : ℕ → ℕ) (old now new : List CodeLine) (xs : List Line) (k : ℕ) (d : Line) → k < length xs → now ≡ old ++ lines_code at m 0 (take k xs) → new ≡ now ++ line_code at (m k) (get_or xs k d) → new ≡ old ++ lines_code at m 0 (take (k + 1) xs)
-lines_grown at m old now new xs k d l a b =
-    let q : suc k ≡ k + 1 = omega arith in
-    let z0 : k + 0 ≡ k = omega arith in
-    b ∙ ap (λ z. z ++ line_code at (m k) (get_or xs k d)) a ∙ append_assoc old (lines_code at m 0 (take k xs)) (line_code at (m k) (get_or xs k d))
-    ∙ ap (λ z. old ++ z) (ap (λ z. lines_code at m 0 (take k xs) ++ line_code at (m z) (get_or xs k d)) (sym z0) ∙ sym (lines_more at m 0 xs k d l)) ∙ ap (λ z. old ++ lines_code at m 0 (take z xs)) q
+pub lines_done : (at : Name → ℕ) (m : ℕ → ℕ) (needed : ℕ → ℕ → Bool) (before : Option ℕ) (old now : List CodeLine) (xs : List Line) (k : ℕ) → length xs ≤ k → now ++ lines_code at m needed before k (drop k xs) ≡ old → now ≡ old
+lines_done at m needed before old now xs k l a = sym (append-nil now) ∙ ap (λ z. now ++ lines_code at m needed before k z) (sym (drop_all k xs l)) ∙ a
 
 -- a block is put, and the others are left
 pub laid_grown : (laying : Laying) (old now new : List CodeLine) (order : List ℕ) (k d : ℕ) → k < length order → now ++ laid_code laying (drop k order) ≡ old → new ≡ now ++ laid_block laying (get_or order k d) (drop (k + 1) order) → new ++ laid_code laying (drop (k + 1) order) ≡ old

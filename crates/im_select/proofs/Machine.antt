@@ -1,7 +1,9 @@
 -- Placed code names registers of the machine; the words of a block's points give the entries of its cuts.
-use Rattle.std.proofs.Common.{◌≡◌, ℕ, suc, ◌+◌, ◌<◌, ◌≤◌, Bool, List, [], ◌∷◌, ◌++◌, Some, None, length, get_or, drop, refl, sym, ap, ◌∙◌, subst, arith}
-use Rattle.std.specs.Prelude.{slice_get, slice_index, All}
+use Rattle.std.proofs.Common.{◌≡◌, ℕ, suc, ◌+◌, ◌<◌, ◌≤◌, Bool, List, [], ◌∷◌, ◌++◌, Option, Some, None, length, get_or, drop, refl, sym, ap, ◌∙◌, subst, arith}
+use Rattle.std.specs.Prelude.{◌==◌, ◌&&◌, ◌||◌, not, is_some, if◌then◌else◌, slice_get, slice_index, All}
 use Rattle.std.proofs.lemmas.Option.{slice_get_within, get_or_from_slice_get}
+use Rattle.std.proofs.lemmas.List.Elements.{All-head, All-tail}
+use Rattle.im_num.specs.Kinds.{word}
 use Rattle.im_store.specs.Objects.{Name}
 use Rattle.im_block.specs.declared.code.Place.{Place}
 use Rattle.im_block.specs.declared.code.Place.TheVariants.{Static, Local, Through}
@@ -19,7 +21,7 @@ use Rattle.im_live.specs.Words.{has, PlaceBelow, IsMachineLine, IsMachineExit, I
 use Rattle.im_live.specs.Entries.{entry_in, entries}
 use Rattle.im_live.proofs.Least.{greatest_same}
 use Rattle.im_select.specs.Given.{Given}
-use Rattle.im_select.specs.Emitted.{line_code, lines_code}
+use Rattle.im_select.specs.Emitted.{immediate_line, passed_by, way_code, lines_code, behind_each, behind_at}
 use Rattle.im_select.specs.Selects.{IsClosedBlock}
 
 place_machine : (place : Place) → PlaceAtHome place → PlaceBelow place
@@ -58,7 +60,7 @@ exit_machine count (Return (Some r)) h t = let a : r ≡ 10 = h in omega arith
 pub all_at : {X : Type 0} (P : X → Type 0) (xs : List X) (k : ℕ) (x : X) → All P xs → slice_get xs k ≡ Some x → P x
 all_at P xs k x h e = subst P (get_or_from_slice_get xs k x x e) (h k x (slice_get_within xs k x e))
 
-all_to : {X : Type 0} (P Q : X → Type 0) (xs : List X) → ((x : X) → P x → Q x) → All P xs → All Q xs
+pub all_to : {X : Type 0} (P Q : X → Type 0) (xs : List X) → ((x : X) → P x → Q x) → All P xs → All Q xs
 all_to P Q xs k a = λ i d lt. k (get_or xs i d) (a i d lt)
 
 pub block_machine : (statics count : ℕ) (f : Function) (block : Block) → IsPlacedBlock statics f block → ExitThere count block.exit → IsMachineBlock count block
@@ -76,8 +78,22 @@ entry_is live blocks b block points j there p lt =
     (λ r small. p.each (j + 1) r (omega arith) small ∙ ap (λ z. lives_before live (drop z block.lines.items) block.exit r) k)
     ∙ sym (ap (λ o. entry_in live o j) there)
 
-pub lines_alike : (at : Name → ℕ) (m n : ℕ → ℕ) (j : ℕ) (lines : List Line) → ((k : ℕ) → j ≤ k → k < j + length lines → m k ≡ n k) → lines_code at m j lines ≡ lines_code at n j lines
-lines_alike at m n j [] same = refl
-lines_alike at m n j (line ∷ lines) same =
-    ap (λ z. line_code at z line ++ lines_code at m (suc j) lines) (same j (omega arith) (omega arith))
-    ∙ ap (λ z. line_code at (n j) line ++ z) (lines_alike at m n (suc j) lines (λ k a b. same k (omega arith) (omega arith)))
+-- as words of points have it
+pub behind_is : (live : ℕ → ℕ → Bool) (block : Block) (points : List ℕ) (j r : ℕ) → ArePoints live block.lines.items block.exit points → j < length block.lines.items → r < 32 → behind_at points j r ≡ behind_each live block.lines.items block.exit j r
+behind_is live block points j r p lt small =
+    let k : j + 1 ≡ suc j = omega arith in
+    p.each (j + 1) r (omega arith) small ∙ ap (λ z. lives_before live (drop z block.lines.items) block.exit r) k
+
+passed_alike : (p q : ℕ → Bool) (line : Line) (lines : List Line) → (0 < length lines → (r : ℕ) → r < 32 → p r ≡ q r) → IsMachineLine line → passed_by p line lines ≡ passed_by q line lines
+passed_alike p q (Put r z) (Compute to op kind left right ∷ rest) h m = ap (λ b. if right == r && (not (left == r || (not (r == to) && b)) && is_some (immediate_line to op kind left (word z))) then Some (word z) else None) (h (omega arith) r m)
+passed_alike p q (Put r z) (user ∷ rest) h m = refl
+passed_alike p q (Put r z) [] h m = refl
+passed_alike p q line lines h m = refl
+
+pub lines_alike : (at : Name → ℕ) (m n : ℕ → ℕ) (p q : ℕ → ℕ → Bool) (before : Option ℕ) (j : ℕ) (lines : List Line) → ((k : ℕ) → j ≤ k → k < j + length lines → m k ≡ n k) → ((k r : ℕ) → j ≤ k → k < j + length lines → r < 32 → p k r ≡ q k r) → All IsMachineLine lines → lines_code at m p before j lines ≡ lines_code at n q before j lines
+lines_alike at m n p q before j [] same alike all = refl
+lines_alike at m n p q before j (line ∷ lines) same alike all =
+    let passed : Option ℕ = passed_by (q (suc j)) line lines in
+    ap (λ z. way_code at z (passed_by (p (suc j)) line lines) before line ++ lines_code at m p (passed_by (p (suc j)) line lines) (suc j) lines) (same j (omega arith) (omega arith))
+    ∙ ap (λ z. way_code at (n j) z before line ++ lines_code at m p z (suc j) lines) (passed_alike (p (suc j)) (q (suc j)) line lines (λ some r small. alike (suc j) r (omega arith) (omega arith) small) (All-head IsMachineLine line lines all))
+    ∙ ap (λ z. way_code at (n j) passed before line ++ z) (lines_alike at m n p q passed (suc j) lines (λ k a b. same k (omega arith) (omega arith)) (λ k r a b small. alike k r (omega arith) (omega arith) small) (All-tail IsMachineLine line lines all))

@@ -4,6 +4,7 @@ use Rattle.std.specs.Prelude.{◌&&◌, not, if◌then◌else◌, slice_get}
 use Rattle.std.proofs.lemmas.List.{append-nil}
 use Rattle.im_num.specs.declared.kind.Kind.TheVariants.{I8, U8, I16, U16, I32, U32, Ptr}
 use Rattle.im_num.specs.Kinds.{word}
+use Rattle.im_rv.specs.Decode.{Line as Instruction}
 use Rattle.im_rv.specs.Lines.{CodeLine}
 use Rattle.im_store.specs.declared.operators.UnaryOp.TheVariants.{Negate, Complement}
 use Rattle.im_store.specs.declared.operators.Comparison.TheVariants.{Less, Greater, LessOrEqual, GreaterOrEqual, Equal, NotEqual}
@@ -17,7 +18,7 @@ use Rattle.im_block.specs.Wellformed.{accesses_of_line, accesses_of_lines, acces
 use Rattle.im_select.specs.declared.branching.Test.{Test}
 use Rattle.im_select.specs.declared.distance.Distance.{Distance}
 use Rattle.im_select.specs.declared.distance.Distance.TheVariants.{Near, Far}
-use Rattle.im_select.specs.Emitted.{constant_code, displaced_code, adds_code, place_number, place_code, copied_code, scaled_code, address_code, line_code, lines_code, onward_code, test_code, test_or, taken_test, own_lines, is_next, branch_code, exit_code, is_empty, block_code, Laying, next_label, found_code, laid_block, laid_code, laid_order, blocks_code, enter_code, prologue_code, function_code, labelled, entry_label}
+use Rattle.im_select.specs.Emitted.{constant_code, displaced_code, adds_code, place_number, place_code, copied_code, scaled_code, address_code, computed_code, immediate_line, passed_by, by_or, way_code, line_code, lines_code, behind_each, onward_code, test_code, test_or, taken_test, own_lines, is_next, branch_code, exit_code, is_empty, block_code, Laying, next_label, found_code, laid_block, laid_code, laid_order, blocks_code, enter_code, prologue_code, function_code, labelled, entry_label}
 use Rattle.im_select.specs.Selects.{accesses_in, causes_in, causes_of_line, causes_of_lines, causes_of_blocks, if_found, blocks_at, laid_blocks}
 use Rattle.im_select.proofs.Taking.{IsTaken, Nothing, Comparing, takes}
 use Rattle.im_select.proofs.Plain.{constant_bare, displaced_bare, adds_bare, place_bare, copied_bare, scaled_bare, address_bare, accesses_append, causes_append, bare_accesses, bare_causes, accesses_behind, causes_behind, accesses_labelled, causes_labelled}
@@ -88,17 +89,43 @@ line_causes at m (Call to i first count) = refl
 line_causes at m (Serve to service None) = refl
 line_causes at m (Serve to service (Some from)) = refl
 
-lines_accesses : (at : Name → ℕ) (m : ℕ → ℕ) (j : ℕ) (lines : List Line) → accesses_in (lines_code at m j lines) ≡ accesses_of_lines lines
-lines_accesses at m j [] = refl
-lines_accesses at m j (line ∷ lines) =
-    accesses_append (line_code at (m j) line) (lines_code at m (suc j) lines) ∙ ap (λ z. z ++ accesses_in (lines_code at m (suc j) lines)) (line_accesses at (m j) line)
-    ∙ ap (λ z. accesses_of_line line ++ z) (lines_accesses at m (suc j) lines)
+way_accesses : (at : Name → ℕ) (m : ℕ) (passed before : Option ℕ) (line : Line) → accesses_in (way_code at m passed before line) ≡ accesses_of_line line
+way_accesses at m None before (Put to z) = line_accesses at m (Put to z)
+way_accesses at m (Some n) before (Put to z) = refl
+way_accesses at m passed None (Compute to op kind left right) = refl
+way_accesses at m passed (Some n) (Compute to op kind left right) = by (immediate_line to op kind left n)
+  where
+    by : (o : Option Instruction) → accesses_in (by_or (computed_code to op kind left right) o) ≡ []
+    by None = refl
+    by (Some l) = refl
+way_accesses at m passed before line = line_accesses at m line
 
-lines_causes : (at : Name → ℕ) (m : ℕ → ℕ) (j : ℕ) (lines : List Line) → causes_in (lines_code at m j lines) ≡ causes_of_lines lines
-lines_causes at m j [] = refl
-lines_causes at m j (line ∷ lines) =
-    causes_append (line_code at (m j) line) (lines_code at m (suc j) lines) ∙ ap (λ z. z ++ causes_in (lines_code at m (suc j) lines)) (line_causes at (m j) line)
-    ∙ ap (λ z. causes_of_line line ++ z) (lines_causes at m (suc j) lines)
+way_causes : (at : Name → ℕ) (m : ℕ) (passed before : Option ℕ) (line : Line) → causes_in (way_code at m passed before line) ≡ causes_of_line line
+way_causes at m None before (Put to z) = line_causes at m (Put to z)
+way_causes at m (Some n) before (Put to z) = refl
+way_causes at m passed None (Compute to op kind left right) = refl
+way_causes at m passed (Some n) (Compute to op kind left right) = by (immediate_line to op kind left n)
+  where
+    by : (o : Option Instruction) → causes_in (by_or (computed_code to op kind left right) o) ≡ []
+    by None = refl
+    by (Some l) = refl
+way_causes at m passed before line = line_causes at m line
+
+lines_accesses : (at : Name → ℕ) (m : ℕ → ℕ) (needed : ℕ → ℕ → Bool) (before : Option ℕ) (j : ℕ) (lines : List Line) → accesses_in (lines_code at m needed before j lines) ≡ accesses_of_lines lines
+lines_accesses at m needed before j [] = refl
+lines_accesses at m needed before j (line ∷ lines) =
+    let passed : Option ℕ = passed_by (needed (suc j)) line lines in
+    let own : List CodeLine = way_code at (m j) passed before line in
+    let rest : List CodeLine = lines_code at m needed passed (suc j) lines in
+    accesses_append own rest ∙ ap (λ z. z ++ accesses_in rest) (way_accesses at (m j) passed before line) ∙ ap (λ z. accesses_of_line line ++ z) (lines_accesses at m needed passed (suc j) lines)
+
+lines_causes : (at : Name → ℕ) (m : ℕ → ℕ) (needed : ℕ → ℕ → Bool) (before : Option ℕ) (j : ℕ) (lines : List Line) → causes_in (lines_code at m needed before j lines) ≡ causes_of_lines lines
+lines_causes at m needed before j [] = refl
+lines_causes at m needed before j (line ∷ lines) =
+    let passed : Option ℕ = passed_by (needed (suc j)) line lines in
+    let own : List CodeLine = way_code at (m j) passed before line in
+    let rest : List CodeLine = lines_code at m needed passed (suc j) lines in
+    causes_append own rest ∙ ap (λ z. z ++ causes_in rest) (way_causes at (m j) passed before line) ∙ ap (λ z. causes_of_line line ++ z) (lines_causes at m needed passed (suc j) lines)
 
 onward_accesses : (falls : Bool) (label : ℕ) → accesses_in (onward_code falls label) ≡ []
 onward_accesses true label = refl
@@ -136,9 +163,10 @@ block_accesses at m live distance next first frame b block =
     let taken : Option Test = taken_test live block.lines.items block.exit in
     let own : List Line = own_lines taken block.lines.items in
     let t = takes live block.lines.items block.exit in
-    let lines : List CodeLine = lines_code at m 0 own in
+    let needed : ℕ → ℕ → Bool = behind_each live block.lines.items block.exit in
+    let lines : List CodeLine = lines_code at m needed None 0 own in
     let exit : List CodeLine = exit_code distance next (is_empty lines) first frame taken block.exit in
-    accesses_labelled (first + b) (lines ++ exit) ∙ accesses_append lines exit ∙ ap (λ z. accesses_in lines ++ z) (exit_accesses distance next (is_empty lines) first frame taken block.exit) ∙ append-nil (accesses_in lines) ∙ lines_accesses at m 0 own
+    accesses_labelled (first + b) (lines ++ exit) ∙ accesses_append lines exit ∙ ap (λ z. accesses_in lines ++ z) (exit_accesses distance next (is_empty lines) first frame taken block.exit) ∙ append-nil (accesses_in lines) ∙ lines_accesses at m needed None 0 own
     ∙ tail_accesses live own t.tail block.exit taken t.is ∙ ap accesses_of_lines t.whole
 
 found_accesses : (laying : Laying) (b : ℕ) (next : Option ℕ) (block : Option Block) (rest : List Block) → accesses_in (found_code laying b next block) ++ accesses_of_blocks rest ≡ accesses_of_blocks (if_found block rest)
@@ -196,9 +224,10 @@ block_causes at m live distance next first frame b block =
     let taken : Option Test = taken_test live block.lines.items block.exit in
     let own : List Line = own_lines taken block.lines.items in
     let t = takes live block.lines.items block.exit in
-    let lines : List CodeLine = lines_code at m 0 own in
+    let needed : ℕ → ℕ → Bool = behind_each live block.lines.items block.exit in
+    let lines : List CodeLine = lines_code at m needed None 0 own in
     let exit : List CodeLine = exit_code distance next (is_empty lines) first frame taken block.exit in
-    causes_labelled (first + b) (lines ++ exit) ∙ causes_append lines exit ∙ ap (λ z. causes_in lines ++ z) (exit_causes distance next (is_empty lines) first frame taken block.exit) ∙ append-nil (causes_in lines) ∙ lines_causes at m 0 own
+    causes_labelled (first + b) (lines ++ exit) ∙ causes_append lines exit ∙ ap (λ z. causes_in lines ++ z) (exit_causes distance next (is_empty lines) first frame taken block.exit) ∙ append-nil (causes_in lines) ∙ lines_causes at m needed None 0 own
     ∙ tail_causes live own t.tail block.exit taken t.is ∙ ap causes_of_lines t.whole
 
 found_causes : (laying : Laying) (b : ℕ) (next : Option ℕ) (block : Option Block) (rest : List Block) → causes_in (found_code laying b next block) ++ causes_of_blocks rest ≡ causes_of_blocks (if_found block rest)

@@ -1,13 +1,16 @@
 -- Exits, the lines of a block and the prologue: what is put for them is what may stand for them.
-use Rattle.std.proofs.Common.{◌≡◌, ◌<◌, inl, inr, ℕ, suc, ◌+◌, ◌-◌, ◌^◌, Bool, true, false, List, [], ◌∷◌, ◌++◌, Option, Some, None, length, refl, sym, ap, ◌∙◌, subst, append_assoc, arith}
+use Rattle.std.proofs.Common.{◌≡◌, ◌<◌, ◌⊎◌, inl, inr, ℕ, ℤ, suc, ◌+◌, ◌-◌, ◌^◌, Bool, true, false, List, [], ◌∷◌, ◌++◌, Option, Some, None, length, drop, refl, sym, ap, ◌∙◌, subst, append_assoc, arith}
 use Rattle.std.specs.Prelude.{◌&&◌, not, if◌then◌else◌, All}
 use Rattle.std.proofs.lemmas.List.Elements.{All-head, All-tail}
+use Rattle.im_num.specs.declared.kind.Kind.{Kind}
+use Rattle.im_num.specs.Kinds.{word}
 use Rattle.im_rv.specs.declared.instr.Op.TheVariants.{Jalr}
 use Rattle.im_rv.specs.Lines.{CodeLine, plain_line}
 use Rattle.im_rv_reach.specs.Instructions.{with_immediate, jumping}
+use Rattle.im_store.specs.declared.operators.BinaryOp.{BinaryOp}
 use Rattle.im_store.specs.Objects.{Name}
 use Rattle.im_block.specs.declared.code.Line.{Line}
-use Rattle.im_block.specs.declared.code.Line.TheVariants.{Compare}
+use Rattle.im_block.specs.declared.code.Line.TheVariants.{Put, Compute, Compare}
 use Rattle.im_block.specs.declared.code.Block.{Block}
 use Rattle.im_block.specs.declared.code.Exit.{Exit}
 use Rattle.im_block.specs.declared.code.Exit.TheVariants.{Jump, Turn, Branch, Return}
@@ -15,13 +18,13 @@ use Rattle.im_block.specs.declared.unit.Function.{Function}
 use Rattle.im_block.specs.Wellformed.{ExitThere}
 use Rattle.im_alloc_placed.specs.Placed.{IsPlacedLine, IsPlacedExit}
 use Rattle.im_select_relation.specs.Selected.{IsEntry, IsDead}
-use Rattle.im_select_relation.specs.Symbolic.{Lines, Aimed, JumpsIn, ContinuesIn, Falls, Leaps, TestedIn, Reached, Missed, Hopped, Skipped, LeavesIn, ExitIn, Decides, StandsIn, SelectedIn, Around, PrologueIn}
-use Rattle.im_live.specs.Reads.{reads_first, IsLive}
+use Rattle.im_select_relation.specs.Symbolic.{Lines, Plain, Aimed, JumpsIn, ContinuesIn, Falls, Leaps, TestedIn, Reached, Missed, Hopped, Skipped, LeavesIn, ExitIn, Decides, FoldedIn, ComputesBy, StandsIn, SelectedIn, Around, PrologueIn}
+use Rattle.im_live.specs.Reads.{lives_before, reads_first, IsLive}
 use Rattle.im_select.specs.declared.branching.Test.{Test}
 use Rattle.im_select.specs.declared.branching.Test.TheVariants.{Nonzero, Compares}
 use Rattle.im_select.specs.declared.distance.Distance.{Distance}
 use Rattle.im_select.specs.declared.distance.Distance.TheVariants.{Near, Far}
-use Rattle.im_select.specs.Emitted.{adds_code, leave_code, is_next, onward_code, both_ways, test_line, test_code, branch_code, exit_code, line_code, lines_code, enter_code, prologue_code}
+use Rattle.im_select.specs.Emitted.{adds_code, leave_code, is_next, onward_code, both_ways, test_line, test_code, branch_code, exit_code, word_taken, passed_by, line_code, lines_code, enter_code, prologue_code}
 use Rattle.im_select.specs.Given.{Given}
 use Rattle.im_select.specs.Places.{CallsBelow}
 use Rattle.im_select.specs.Selects.{Agrees}
@@ -29,6 +32,7 @@ use Rattle.im_select.proofs.Ordering.{same_number}
 use Rattle.im_select.proofs.Standing.{At, after, after_append, at_left, at_right}
 use Rattle.im_select.proofs.Taking.{IsTaken, Nothing, Comparing}
 use Rattle.im_select.proofs.Selecting.{Words, adds_in, selected_in}
+use Rattle.im_select.proofs.Pairing.{folds, immediate_of, lines_alone, lines_paired, spent_in}
 
 leaves_in : (w : Lines) (k frame : ℕ) → frame < 2 ^ 32 → At w k (leave_code frame) → LeavesIn w k frame
 leaves_in w k frame small a =
@@ -111,26 +115,83 @@ taken_in w given live starts distance next bare k frame tail exit taken is g sma
     let low : to < 32 = p.0.1 in
     inr (inl (Decides to op kind left right x y p.1 p.2 p.3 (dead_from blocks live x to is low da) (dead_from blocks live y to is low db) (branch_in w given starts k distance next (Compares op kind left right) x y g h.edges.0 h.edges.1 follows a)))
 
-pub stands_in : (w : Lines) (given : Given) (live : ℕ → ℕ → Bool) (starts : ℕ → ℕ) (own : Name → ℕ) (m : ℕ → ℕ) (distance : Distance) (next : Option ℕ) (bare : Bool) (j k frame : ℕ) (lines tail : List Line) (exit : Exit) (taken : Option Test) → ((j : ℕ) → IsEntry (m j)) → IsLive given.function.blocks.items live → Agrees w given → frame < 2 ^ 32 → Alike own w.at (length given.statics) given.function → IsBlockOf given (lines ++ tail) exit → IsTaken live tail exit taken → Follows given starts next (after k (lines_code own m j lines ++ exit_code distance next bare given.first_block frame taken exit)) → At w k (lines_code own m j lines ++ exit_code distance next bare given.first_block frame taken exit) → StandsIn w given.function.blocks.items starts frame k (lines ++ tail) exit
-stands_in w given live starts own m distance next bare j k frame [] tail exit taken o is g small alike h t follows a = taken_in w given live starts distance next bare k frame tail exit taken is g small h t follows a
-stands_in w given live starts own m distance next bare j k frame (line ∷ lines) tail exit taken o is g small alike h t follows a =
-    let statics : ℕ = length given.statics in
-    let f : Function = given.function in
-    let last : List CodeLine = exit_code distance next bare given.first_block frame taken exit in
-    let head : List CodeLine = line_code own (m j) line in
-    let rest : List CodeLine = lines_code own m (suc j) lines ++ last in
-    let joined = append_assoc head (lines_code own m (suc j) lines) last in
-    let b : At w k (head ++ rest) = subst (At w k) joined a in
-    let p = All-head (IsPlacedLine statics f) line (lines ++ tail) h.placed in
-    let q = All-head (CallsBelow given.functions) line (lines ++ tail) h.calls in
-    let same = (alike (m j) line p).0 in
-    let here : SelectedIn w k line (after k head) = subst (λ z. SelectedIn w k line (after k z)) (sym same) (selected_in w given k (m j) (o j) g line p q (alike (m j) line p).1 (subst (At w k) same (at_left w k head rest b))) in
-    let later : Follows given starts next (after (after k head) rest) = (λ n e. sym (after_append k head rest) ∙ ap (after k) (sym joined) ∙ follows n e) in
-    inl (
-      after k head,
-      here,
-      stands_in w given live starts own m distance next bare (suc j) (after k head) frame lines tail exit taken o is g small alike (tail_of given line (lines ++ tail) exit h) t later (at_right w k head rest b),
-    )
+-- what lives behind the lines that are left: number j is the first of them
+abbrev pub IsBehind : (ℕ → ℕ → Bool) → (ℕ → ℕ → Bool) → ℕ → List Line → Exit → Type 0
+IsBehind live needed j lines exit = (i r : ℕ) → needed (i + j) r ≡ lives_before live (drop (suc i) lines) exit r
+
+pub behind_tail : (live needed : ℕ → ℕ → Bool) (j : ℕ) (line : Line) (lines : List Line) (exit : Exit) → IsBehind live needed j (line ∷ lines) exit → IsBehind live needed (suc j) lines exit
+behind_tail live needed j line lines exit h = λ i r. (let q : i + suc j ≡ suc i + j = omega arith in ap (λ z. needed z r) q ∙ h (suc i) r)
+
+pub word_cases : {X : Type 0} (o : Option ℕ) → (o ≡ None → X) → ((n : ℕ) → o ≡ Some n → X) → X
+word_cases None f g = f refl
+word_cases (Some n) f g = g n refl
+
+module _ (w : Lines) (given : Given) (live : ℕ → ℕ → Bool) (starts : ℕ → ℕ) (own : Name → ℕ) (m : ℕ → ℕ) (needed : ℕ → ℕ → Bool) (distance : Distance) (next : Option ℕ) (bare : Bool) (frame : ℕ) (tail : List Line) (exit : Exit) (taken : Option Test) (o : (j : ℕ) → IsEntry (m j)) (is : IsLive given.function.blocks.items live) (g : Agrees w given) (small : frame < 2 ^ 32) (alike : Alike own w.at (length given.statics) given.function) (t : IsTaken live tail exit taken) where
+  abbrev last : List CodeLine
+  last = exit_code distance next bare given.first_block frame taken exit
+
+  abbrev code : ℕ → List Line → List CodeLine
+  code j lines = lines_code own m needed None j lines ++ last
+
+  abbrev Stood : ℕ → List Line → Type 0
+  Stood k lines = StandsIn w given.function.blocks.items starts frame k (lines ++ tail) exit
+
+  -- where code stands and what follows it is next, so do the lines
+  abbrev Goes : ℕ → List CodeLine → Type 0 → Type 0
+  Goes k xs X = Follows given starts next (after k xs) → At w k xs → X
+
+  alone : (j k : ℕ) (line : Line) (lines : List Line) → passed_by (needed (suc j)) line lines ≡ None → IsBlockOf given ((line ∷ lines) ++ tail) exit → Goes (after k (line_code own (m j) line)) (code (suc j) lines) (Stood (after k (line_code own (m j) line)) lines) → Goes k (code j (line ∷ lines)) (Stood k (line ∷ lines))
+  alone j k line lines e h later follows a =
+      let statics : ℕ = length given.statics in
+      let f : Function = given.function in
+      let head : List CodeLine = line_code own (m j) line in
+      let rest : List CodeLine = code (suc j) lines in
+      let joined : code j (line ∷ lines) ≡ head ++ rest = ap (λ z. z ++ last) (lines_alone own m needed j line lines e) ∙ append_assoc head (lines_code own m needed None (suc j) lines) last in
+      let b : At w k (head ++ rest) = subst (At w k) joined a in
+      let p = All-head (IsPlacedLine statics f) line (lines ++ tail) h.placed in
+      let q = All-head (CallsBelow given.functions) line (lines ++ tail) h.calls in
+      let same = (alike (m j) line p).0 in
+      let here : SelectedIn w k line (after k head) = subst (λ z. SelectedIn w k line (after k z)) (sym same) (selected_in w given k (m j) (o j) g line p q (alike (m j) line p).1 (subst (At w k) same (at_left w k head rest b))) in
+      inl (
+        after k head,
+        here,
+        later (λ n e. sym (after_append k head rest) ∙ ap (after k) (sym joined) ∙ follows n e) (at_right w k head rest b),
+      )
+
+  folded : (j k r : ℕ) (z : ℤ) (to : ℕ) (op : BinaryOp) (kind : Kind) (left right : ℕ) (lines : List Line) (n : ℕ) → word_taken (needed (suc j)) r (word z) (Compute to op kind left right) ≡ Some n → IsBehind live needed j ((Put r z ∷ Compute to op kind left right ∷ lines) ++ tail) exit → IsBlockOf given ((Put r z ∷ Compute to op kind left right ∷ lines) ++ tail) exit → Goes (suc k) (code (suc (suc j)) lines) (Stood (suc k) lines) → Goes k (code j (Put r z ∷ Compute to op kind left right ∷ lines)) (Stood k (Put r z ∷ Compute to op kind left right ∷ lines))
+  folded j k r z to op kind left right lines n e behind h later follows a =
+      let statics : ℕ = length given.statics in
+      let f : Function = given.function in
+      let blocks : List Block = f.blocks.items in
+      let user : Line = Compute to op kind left right in
+      let d = folds (needed (suc j)) r (word z) to op kind left right n e in
+      let i = immediate_of to op kind left z d.line d.is in
+      let taken_is : word_taken (needed (suc j)) r (word z) user ≡ Some (word z) = e ∙ ap Some d.same in
+      let head : CodeLine = plain_line d.line in
+      let joined : code j (Put r z ∷ user ∷ lines) ≡ head ∷ code (suc (suc j)) lines = ap (λ x. x ++ last) (lines_paired own m needed j r z to op kind left right lines (word z) d.line taken_is d.is) in
+      let b : At w k (head ∷ code (suc (suc j)) lines) = subst (At w k) joined a in
+      let put = All-head (IsPlacedLine statics f) (Put r z) (user ∷ (lines ++ tail)) h.placed in
+      let p = All-head (IsPlacedLine statics f) user (lines ++ tail) (All-tail (IsPlacedLine statics f) (Put r z) (user ∷ (lines ++ tail)) h.placed) in
+      let spent : (r ≡ to) ⊎ (lives_before live (lines ++ tail) exit r ≡ false) = elim d.spent [ inl x ↦ inl x | inr x ↦ inr (let q : 1 + j ≡ suc j = omega arith in sym (behind 1 r) ∙ ap (λ x. needed x r) q ∙ x) ] in
+      let here : FoldedIn w blocks k (Put r z) (Compute to op kind left r) (lines ++ tail) exit (suc k) =
+      ComputesBy r z to op kind left (lines ++ tail) exit i.by i.imm p.0 p.1 d.apart p.3 i.is (spent_in blocks live (lines ++ tail) exit to r is put.1 spent) (subst (λ x. Plain w k x) i.line b.0) in
+      inr (inr (
+        suc k,
+        subst (λ x. FoldedIn w blocks k (Put r z) (Compute to op kind left x) (lines ++ tail) exit (suc k)) (sym d.right_is) here,
+        later (λ n e. ap (after k) (sym joined) ∙ follows n e) b.1,
+      ))
+
+  pub stands_in : (j k : ℕ) (lines : List Line) → IsBehind live needed j (lines ++ tail) exit → IsBlockOf given (lines ++ tail) exit → Goes k (code j lines) (Stood k lines)
+  stands_in j k [] behind h follows a = taken_in w given live starts distance next bare k frame tail exit taken is g small h t follows a
+  stands_in j k (Put r z ∷ Compute to op kind left right ∷ lines) behind h follows a =
+      let user : Line = Compute to op kind left right in
+      let behind' = behind_tail live needed j (Put r z) (user ∷ (lines ++ tail)) exit behind in
+      let h' = tail_of given (Put r z) (user ∷ (lines ++ tail)) exit h in
+      word_cases (word_taken (needed (suc j)) r (word z) user)
+      (λ e. alone j k (Put r z) (user ∷ lines) e h (λ follows b. stands_in (suc j) (after k (line_code own (m j) (Put r z))) (Compute to op kind left right ∷ lines) behind' h' follows b) follows a)
+      (λ n e. folded j k r z to op kind left right lines n e behind h (λ follows b. stands_in (suc (suc j)) (suc k) lines (behind_tail live needed (suc j) user (lines ++ tail) exit behind') (tail_of given user (lines ++ tail) exit h') follows b) follows a)
+  stands_in j k (line ∷ lines) behind h follows a =
+      alone j k line lines refl h (λ follows b. stands_in (suc j) (after k (line_code own (m j) line)) lines (behind_tail live needed j line (lines ++ tail) exit behind) (tail_of given line (lines ++ tail) exit h) follows b) follows a
 
 -- the prologue falls into the entry
 pub prologue_in : (w : Lines) (given : Given) (starts : ℕ → ℕ) (frame entry : ℕ) → Agrees w given → 0 < frame → after 0 (prologue_code frame) ≡ starts entry → At w 0 (prologue_code frame) → PrologueIn w starts 0 frame entry

@@ -1,16 +1,17 @@
 -- The very lines that are put for each line of placed code.
-use Rattle.std.specs.Prelude.{ℕ, zero, suc, ◌+◌, ◌-◌, ◌/◌, ◌%◌, ◌^◌, ◌==◌, ◌&&◌, ◌||◌, nat_lt, Bool, true, false, not, if◌then◌else◌, List, [], ◌∷◌, ◌++◌, Option, Some, None, length, slice_get}
+use Rattle.std.specs.Prelude.{ℕ, zero, suc, ◌+◌, ◌-◌, ◌/◌, ◌%◌, ◌^◌, ◌==◌, ◌&&◌, ◌||◌, nat_lt, Bool, true, false, not, if◌then◌else◌, List, [], ◌∷◌, ◌++◌, Option, Some, None, is_some, length, drop, slice_get, slice_index}
 use Rattle.im_num.specs.declared.kind.Kind.{Kind}
 use Rattle.im_num.specs.declared.kind.Kind.TheVariants.{I8, U8, I16, U16, I32, U32, Ptr}
 use Rattle.im_num.specs.declared.values.Cause.{Cause}
 use Rattle.im_num.specs.Kinds.{word}
 use Rattle.im_rv.specs.declared.instr.Op.{Op}
-use Rattle.im_rv.specs.declared.instr.Op.TheVariants.{Jalr, Bgeu, Lw, Sw, Addi, Sltiu, Xori, Andi, Slli, Srli, Srai, Add as AddOp, Sub, Sltu, Mul, Div}
+use Rattle.im_rv.specs.declared.instr.Op.TheVariants.{Jalr, Bgeu, Lw, Sw, Addi, Sltiu, Xori, Ori, Andi, Slli, Srli, Srai, Add as AddOp, Sub, Sltu, Mul, Div}
 use Rattle.im_rv.specs.Decode.{Line as Instruction}
 use Rattle.im_rv.specs.Lines.{CodeLine, plain_line}
 use Rattle.im_rv_reach.specs.Instructions.{with_immediate, on_registers, storing, branching, upper, jumping}
-use Rattle.im_select_operators.specs.Tables.{load_op, store_op, operation, less_op}
+use Rattle.im_select_operators.specs.Tables.{load_op, store_op, by_sign, operation, less_op}
 use Rattle.im_store.specs.declared.operators.BinaryOp.{BinaryOp}
+use Rattle.im_store.specs.declared.operators.BinaryOp.TheVariants.{Add, Subtract, BitAnd, BitOr, BitXor, ShiftLeft, ShiftRight}
 use Rattle.im_store.specs.declared.operators.UnaryOp.{UnaryOp}
 use Rattle.im_store.specs.declared.operators.UnaryOp.TheVariants.{Negate, Complement}
 use Rattle.im_store.specs.declared.operators.Comparison.{Comparison}
@@ -23,6 +24,8 @@ use Rattle.im_block.specs.declared.code.Line.TheVariants.{Put, PutNull, Copy, Co
 use Rattle.im_block.specs.declared.code.Exit.{Exit}
 use Rattle.im_block.specs.declared.code.Exit.TheVariants.{Jump, Turn, Branch, Return}
 use Rattle.im_block.specs.declared.code.Block.{Block}
+use Rattle.im_live.specs.Reads.{lives_before}
+use Rattle.im_live.specs.Words.{has}
 use Rattle.im_select_relation.specs.Selected.{ones, Test as BothWays, nonzero, comparing}
 use Rattle.im_select.specs.declared.branching.Test.{Test}
 use Rattle.im_select.specs.declared.branching.Test.TheVariants.{Nonzero, Compares}
@@ -219,10 +222,78 @@ line_code at m (Cut cause) = cut_code m cause
 line_code at m (Call to function first count) = call_code 1 (entry_label function)
 line_code at m (Serve to service from) = call_code 1 (service_label service)
 
--- lines from number j on; m: the entries of a block's lines
-abbrev pub lines_code : (Name → ℕ) → (ℕ → ℕ) → ℕ → List Line → List CodeLine
-lines_code at m j [] = []
-lines_code at m j (line ∷ lines) = line_code at (m j) line ++ lines_code at m (suc j) lines
+-- ---- a constant as the immediate of the line that uses it (RISC-V Unprivileged ISA, 2.4)
+
+-- with an immediate of twelve bits, where a word is one with its sign
+abbrev pub by_low : Op → ℕ → ℕ → ℕ → Option Instruction
+by_low op to left n = if high_of n == 0 then Some (with_immediate op to left (low_of n)) else None
+
+-- a shift by so many bits
+abbrev pub by_bits : Op → ℕ → ℕ → ℕ → Option Instruction
+by_bits op to left n = if nat_lt n 32 then Some (with_immediate op to left n) else None
+
+abbrev pub negated : ℕ → ℕ
+negated n = (2 ^ 32 - n) % 2 ^ 32
+
+-- an operator with a word on its right as one instruction, if there is one
+abbrev pub immediate_line : ℕ → BinaryOp → Kind → ℕ → ℕ → Option Instruction
+immediate_line to Add kind left n = by_low Addi to left n
+immediate_line to Subtract kind left n = by_low Addi to left (negated n)
+immediate_line to BitAnd kind left n = by_low Andi to left n
+immediate_line to BitOr kind left n = by_low Ori to left n
+immediate_line to BitXor kind left n = by_low Xori to left n
+immediate_line to ShiftLeft kind left n = by_bits Slli to left n
+immediate_line to ShiftRight kind left n = by_bits (by_sign kind Srai Srli) to left n
+immediate_line to op kind left n = None
+
+-- the word that a line takes as its immediate from the line before it, which puts it into register r: nothing reads r behind the line.
+-- lives: what lives there
+abbrev pub word_taken : (ℕ → Bool) → ℕ → ℕ → Line → Option ℕ
+word_taken lives r n (Compute to op kind left right) = if right == r && (not (left == r || (not (r == to) && lives r)) && is_some (immediate_line to op kind left n)) then Some n else None
+word_taken lives r n line = None
+
+-- lives: what lives behind the first of these lines
+abbrev pub word_spent : (ℕ → Bool) → ℕ → ℕ → List Line → Option ℕ
+word_spent lives r n [] = None
+word_spent lives r n (user ∷ rest) = word_taken lives r n user
+
+-- what a line passes to the lines behind it
+abbrev pub passed_by : (ℕ → Bool) → Line → List Line → Option ℕ
+passed_by lives (Put to number) rest = word_spent lives to (word number) rest
+passed_by lives line rest = None
+
+-- no line for a constant that is passed on
+abbrev pub put_code : Option ℕ → ℕ → ℕ → List CodeLine
+put_code None to n = constant_code to n
+put_code (Some passed) to n = []
+
+abbrev pub by_or : List CodeLine → Option Instruction → List CodeLine
+by_or code None = code
+by_or code (Some l) = plain_line l ∷ []
+
+-- with a word that the line before it passed
+abbrev pub operated_code : Option ℕ → ℕ → BinaryOp → Kind → ℕ → ℕ → List CodeLine
+operated_code None to op kind left right = computed_code to op kind left right
+operated_code (Some n) to op kind left right = by_or (computed_code to op kind left right) (immediate_line to op kind left n)
+
+-- passed: the word that the line passes to the next; before: the one that the line before passed to it
+abbrev pub way_code : (Name → ℕ) → ℕ → Option ℕ → Option ℕ → Line → List CodeLine
+way_code at m passed before (Put to number) = put_code passed to (word number)
+way_code at m passed before (Compute to op kind left right) = operated_code before to op kind left right
+way_code at m passed before line = line_code at m line
+
+-- lines from number j on; m: the entries of a block's lines; needed: what lives behind each; before: what the line before them passed
+abbrev pub lines_code : (Name → ℕ) → (ℕ → ℕ) → (ℕ → ℕ → Bool) → Option ℕ → ℕ → List Line → List CodeLine
+lines_code at m needed before j [] = []
+lines_code at m needed before j (line ∷ lines) = way_code at (m j) (passed_by (needed (suc j)) line lines) before line ++ lines_code at m needed (passed_by (needed (suc j)) line lines) (suc j) lines
+
+-- what lives behind each of a block's lines
+abbrev pub behind_each : (ℕ → ℕ → Bool) → List Line → Exit → ℕ → ℕ → Bool
+behind_each live lines exit j r = lives_before live (drop (suc j) lines) exit r
+
+-- as words of a block's points have it
+abbrev pub behind_at : List ℕ → ℕ → ℕ → Bool
+behind_at points j r = has (slice_index points (j + 1)) r
 
 -- ---- the ends of blocks. Block b has the label first + b
 
@@ -311,12 +382,12 @@ abbrev pub ended_code : Distance → Option ℕ → ℕ → ℕ → Option Test 
 ended_code distance next first frame taken lines exit = lines ++ exit_code distance next (is_empty lines) first frame taken exit
 
 -- the lines that it doesn't take, and the exit
-abbrev pub taking_code : (Name → ℕ) → (ℕ → ℕ) → Distance → Option ℕ → ℕ → ℕ → Option Test → List Line → Exit → List CodeLine
-taking_code at m distance next first frame taken lines exit = ended_code distance next first frame taken (lines_code at m 0 (own_lines taken lines)) exit
+abbrev pub taking_code : (Name → ℕ) → (ℕ → ℕ) → (ℕ → ℕ → Bool) → Distance → Option ℕ → ℕ → ℕ → Option Test → List Line → Exit → List CodeLine
+taking_code at m needed distance next first frame taken lines exit = ended_code distance next first frame taken (lines_code at m needed None 0 (own_lines taken lines)) exit
 
--- m: the entries of its lines; next: the label that stands behind it
+-- m: the entries of its lines; live: what lives at the starts of blocks; next: the label that stands behind it
 abbrev pub block_code : (Name → ℕ) → (ℕ → ℕ) → (ℕ → ℕ → Bool) → Distance → Option ℕ → ℕ → ℕ → ℕ → Block → List CodeLine
-block_code at m live distance next first frame b block = labelled (first + b) (taking_code at m distance next first frame (taken_test live block.lines.items block.exit) block.lines.items block.exit)
+block_code at m live distance next first frame b block = labelled (first + b) (taking_code at m (behind_each live block.lines.items block.exit) distance next first frame (taken_test live block.lines.items block.exit) block.lines.items block.exit)
 
 -- ---- the order of blocks: the entry first, then the others, from the last to the first
 

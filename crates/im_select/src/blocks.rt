@@ -3,7 +3,7 @@ ghost use Rattle.im_rv.specs.Lines.{code_lines};
 ghost use Rattle.im_block.specs.Wellformed.{ExitThere};
 ghost use Rattle.im_alloc_placed.specs.Placed.{IsPlacedExit, IsPlacedBlock};
 ghost use Rattle.im_live.specs.Words.{entry_at, starts_have};
-ghost use Rattle.im_select.specs.Emitted.{labelled, leave_code, result_code, onward_code, test_code, test_or, is_next, branch_code, ended_code, enter_code, prologue_code, block_code, found_code};
+ghost use Rattle.im_select.specs.Emitted.{labelled, leave_code, result_code, onward_code, test_code, test_or, is_next, branch_code, ended_code, enter_code, prologue_code, taken_test, taking_code, behind_at, found_code};
 ghost use Rattle.im_select.specs.Given.{given};
 ghost use Rattle.im_select.specs.Places.{at_of, HasPlaces, IsTest};
 ghost use Rattle.im_select.specs.Selects.{laying_of, IsClosedBlock};
@@ -184,8 +184,11 @@ fn lines_by(
     requires starts { length live.now ≡ length names.now.function.now.blocks.items }
     requires enough { length points.now ≡ length block.now.lines.items + 1 }
     ensures { IfOk result (λ lines. code_lines lines.items
-        ≡ block_code (at_of (given names.now)) (entry_at points.now) (starts_have live.now) distance next
-        names.now.first_block names.now.layout.now.frame number block.now) }
+        ≡ labelled (names.now.first_block + number) (taking_code (at_of (given names.now))
+        (entry_at points.now) (behind_at points.now) distance next names.now.first_block
+        names.now.layout.now.frame
+        (taken_test (starts_have live.now) block.now.lines.items block.now.exit)
+        block.now.lines.items block.now.exit)) }
 {
     let mut lines = Vec::new(alloc);
     let taken = taken_test(live, &block.lines, block.exit);

@@ -127,7 +127,7 @@ pub(crate) fn branch_by(test: Test, holds: bool, bytes: i32) -> Instr
 }
 
 /// Whether a register is in a word of registers.
-fn lives(word: u32, register: u32) -> bool
+pub(crate) fn lives(word: u32, register: u32) -> bool
     requires { register < 32 }
     ensures { result ≡ has word register }
 {

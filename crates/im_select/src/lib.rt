@@ -5,6 +5,7 @@ mod blocks;
 mod branching;
 mod computing;
 mod distance;
+mod folding;
 mod lines;
 mod memory;
 mod names;

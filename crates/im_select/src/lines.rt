@@ -1,7 +1,7 @@
-ghost use Rattle.std.specs.Prelude.{◌≡◌, ◌≤◌, ◌+◌, ◌++◌, length, OnOk, All};
+ghost use Rattle.std.specs.Prelude.{◌≡◌, ◌≤◌, ◌+◌, ◌++◌, None, length, OnOk, All};
 ghost use Rattle.im_rv.specs.Lines.{code_lines};
 ghost use Rattle.im_alloc_placed.specs.Placed.{IsPlacedLine};
-ghost use Rattle.im_select.specs.Emitted.{line_code, lines_code};
+ghost use Rattle.im_select.specs.Emitted.{line_code, lines_code, behind_at};
 ghost use Rattle.im_live.specs.Words.{entry_at};
 ghost use Rattle.im_select.specs.Given.{given};
 ghost use Rattle.im_select.specs.Places.{at_of, HasPlaces, CallsBelow};
@@ -10,6 +10,7 @@ use crate::computing::{
     push_compared, push_computed, push_converted, push_copy, push_distance, push_moved, push_not,
     push_unary,
 };
+use crate::folding::{passed_by, push_way};
 use crate::memory::{push_address, push_read, push_reload, push_spill, push_write};
 use crate::names::Names;
 use crate::push::{push_cut, push_jump};
@@ -102,11 +103,15 @@ pub(crate) fn push_lines(
         (IsPlacedLine (length names.now.statics.now) names.now.function.now) placed.now }
     requires called { All (CallsBelow names.now.functions) placed.now }
     ensures { OnOk result (code_lines lines.new.items
-        ≡ code_lines lines.old.items ++ lines_code (at_of (given names.now)) (entry_at points.now) 0 placed.now) }
+        ≡ code_lines lines.old.items ++ lines_code (at_of (given names.now)) (entry_at points.now)
+        (behind_at points.now) None 0 placed.now) }
 {
+    let mut before = None;
     for (number, line) in placed.iter().enumerate() {
         let entry = entry_for(points[number + 1]);
-        push_line(lines, names, entry, *line)?;
+        let passed = passed_by(points, placed, number);
+        push_way(lines, names, entry, passed, before, *line)?;
+        before = passed;
     }
     Ok(())
 }

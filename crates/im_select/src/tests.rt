@@ -1,5 +1,7 @@
 ghost use Rattle.std.specs.Prelude.{◌≡◌, ◌≤◌, [], length, IfOk};
 ghost use Rattle.im_frame.specs.Layout.{bytes_of};
+ghost use Rattle.im_select_operators.specs.Tables.{IsPromoted};
+ghost use Rattle.im_select_relation.specs.Selected.{IsHome};
 ghost use Rattle.im_select.specs.Places.{IsTest};
 
 use crate::branching::{Test, branch_by};
@@ -237,6 +239,125 @@ fn short_lines_are_those_of_the_manual(rt: HostRuntime) -> Result<(), Fail> {
     for (line, word) in lines.iter().zip(&SHORT_WORDS) {
         assert_eq!(rt; encode(line.instr), *word);
     }
+    Ok(())
+}
+
+// Whether a constant in x12 and the operator by it are these words, where these registers live behind.
+fn are_words(
+    alloc: Global,
+    behind: u32,
+    number: i128,
+    to: u32,
+    op: BinaryOp,
+    kind: Kind,
+    left: u32,
+    words: &[u32],
+) -> Result<bool, Fail>
+    requires to { IsHome to }
+    requires left { IsHome left }
+    requires kind { IsPromoted kind }
+{
+    let function = sample(alloc)?;
+    let layout = lay_out(alloc, &function)?;
+    let names = Names {
+        statics: &[0x100000],
+        functions: 1,
+        function: &function,
+        layout: &layout,
+        first_block: 65,
+    };
+    let placed = [
+        Line::Put { to: 12, number },
+        Line::Compute {
+            to,
+            op,
+            kind,
+            left,
+            right: 12,
+        },
+    ];
+    let mut lines = Vec::new(alloc);
+    push_lines(&mut lines, &names, &[0, 0, behind], &placed)?;
+    let mut same = lines.len() == words.len();
+    for (line, word) in lines.iter().zip(words) {
+        same = same && encode(line.instr) == *word;
+    }
+    Ok(same)
+}
+
+// By llvm-mc: constants of twelve bits and how far values are shifted.
+#[test]
+fn constants_are_immediates(rt: HostRuntime) -> Result<(), Fail> {
+    let alloc = rt.alloc();
+    let (int, unsigned) = (Kind::I32, Kind::U32);
+    let sums = are_words(alloc, 0, 5, 13, BinaryOp::Add, int, 10, &[0x00550693])?
+        && are_words(alloc, 0, 2047, 13, BinaryOp::Add, int, 10, &[0x7ff50693])?
+        && are_words(alloc, 0, -5, 13, BinaryOp::Add, int, 10, &[0xffb50693])?
+        && are_words(
+            alloc,
+            0,
+            4294967291,
+            13,
+            BinaryOp::Add,
+            unsigned,
+            10,
+            &[0xffb50693],
+        )?
+        && are_words(alloc, 0, 5, 13, BinaryOp::Subtract, int, 10, &[0xffb50693])?
+        && are_words(
+            alloc,
+            0,
+            2048,
+            13,
+            BinaryOp::Subtract,
+            int,
+            10,
+            &[0x80050693],
+        )?;
+    let bits = are_words(alloc, 0, 255, 13, BinaryOp::BitAnd, int, 10, &[0x0ff57693])?
+        && are_words(alloc, 0, 1, 13, BinaryOp::BitOr, int, 10, &[0x00156693])?
+        && are_words(alloc, 0, -1, 13, BinaryOp::BitXor, int, 10, &[0xfff54693])?;
+    let shifts = are_words(alloc, 0, 3, 13, BinaryOp::ShiftLeft, int, 10, &[0x00351693])?
+        && are_words(
+            alloc,
+            0,
+            31,
+            13,
+            BinaryOp::ShiftRight,
+            int,
+            10,
+            &[0x41f55693],
+        )?
+        && are_words(
+            alloc,
+            0,
+            31,
+            13,
+            BinaryOp::ShiftRight,
+            unsigned,
+            10,
+            &[0x01f55693],
+        )?;
+    let over = are_words(alloc, 0x1000, 5, 12, BinaryOp::Add, int, 10, &[0x00550613])?;
+    assert_eq!(rt; (sums, bits, shifts, over), (true, true, true, true));
+    Ok(())
+}
+
+// By llvm-mc: those of more bits, without such an instruction, or read elsewhere too.
+#[test]
+fn other_constants_have_lines(rt: HostRuntime) -> Result<(), Fail> {
+    let alloc = rt.alloc();
+    let int = Kind::I32;
+    let great = [0x00001637, 0x80060613, 0x00c506b3];
+    let far = [0x02000613, 0x00c516b3];
+    let many = are_words(alloc, 0, 2048, 13, BinaryOp::Add, int, 10, &great)?
+        && are_words(alloc, 0, 32, 13, BinaryOp::ShiftLeft, int, 10, &far)?;
+    let times = [0x00500613, 0x02c506b3];
+    let without = are_words(alloc, 0, 5, 13, BinaryOp::Multiply, int, 10, &times)?;
+    let (sum, twice) = ([0x00500613, 0x00c506b3], [0x00500613, 0x00c606b3]);
+    let read = are_words(alloc, 0x1000, 5, 13, BinaryOp::Add, int, 10, &sum)?
+        && are_words(alloc, 0, 5, 13, BinaryOp::Add, int, 12, &twice)?;
+    assert_eq!(rt; (many, without, read), (true, true, true));
     Ok(())
 }
 

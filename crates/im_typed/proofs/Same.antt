@@ -52,8 +52,8 @@ module _ (before after : Table) (longer : IsLonger (structs_of before) (structs_
       same_expr (re.Increment' b a change old) h = ap (λ z. p.Increment z change old) (same_place a h.0)
       same_expr (re.Part' from x b e) h = λ i. p.Part from (same_access x h.0 i) (same_expr e h.1 i)
       same_expr (re.Call' n shape es) h = ap (p.Call n) (same_exprs _ es h.1)
-      same_expr (re.Serve' service re.None') h = refl
-      same_expr (re.Serve' service (re.Some' b e)) h = ap (λ z. p.Serve service (p.an_argument z)) (same_expr e h.0)
+      same_expr (re.Serve service) h = refl
+      same_expr (re.ServeWith' service b e) h = ap (λ z. p.Serve service (p.an_argument z)) (same_expr e h.0)
 
       same_exprs : {m : _} (os : List p.LocalObject) (es : re.Row_of-Expr m) → AreArguments g f os (exprs_of before es) → exprs_of after es ≡ exprs_of before es
       same_exprs [] re.end_of-Expr h = refl

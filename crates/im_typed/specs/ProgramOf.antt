@@ -55,8 +55,8 @@ module _ (types : Table) where
     expr_of (re.Increment' b a change old) = p.Increment (place_of a) change old
     expr_of (re.Part' from x b e) = p.Part from (access_of x) (expr_of e)
     expr_of (re.Call' f shape es) = p.Call f (exprs_of es)
-    expr_of (re.Serve' service re.None') = p.Serve service p.no_argument
-    expr_of (re.Serve' service (re.Some' b e)) = p.Serve service (p.an_argument (expr_of e))
+    expr_of (re.Serve service) = p.Serve service p.no_argument
+    expr_of (re.ServeWith' service b e) = p.Serve service (p.an_argument (expr_of e))
 
     pub exprs_of : {m : _} → re.Row_of-Expr m → p.Exprs
     exprs_of re.end_of-Expr = p.no_exprs

@@ -89,14 +89,14 @@ fn count_expression(expression: &Expr) -> u64
         (2 ^ 64 - 1) }
 {
     match expression {
-        Expr::Number(_, _) | Expr::Null => 1,
-        Expr::Read(_, place) => count_place(place).saturating_add(1),
-        Expr::Address(place) => count_place(place).saturating_add(1),
+        Expr::Number(_, _) | Expr::Null | Expr::Serve(_) => 1,
+        Expr::Read(_, place) | Expr::Address(place) => count_place(place).saturating_add(1),
         Expr::Convert(_, operand)
         | Expr::Unary(_, _, operand)
         | Expr::Not(operand)
         | Expr::Discard(operand)
-        | Expr::Part { whole: operand, .. } => count_expression(operand).saturating_add(1),
+        | Expr::Part { whole: operand, .. }
+        | Expr::ServeWith(_, operand) => count_expression(operand).saturating_add(1),
         Expr::Move { pointer, by, .. } | Expr::MoveBy { by, pointer, .. } => {
             node_over(count_expression(pointer), count_expression(by))
         }
@@ -122,8 +122,6 @@ fn count_expression(expression: &Expr) -> u64
             node_over(count_place(place), change_conversions(*change))
         }
         Expr::Call(_, arguments) => count_arguments(arguments).saturating_add(1),
-        Expr::Serve(_, None) => 1,
-        Expr::Serve(_, Some(operand)) => count_expression(operand).saturating_add(1),
     }
 }
 

@@ -115,8 +115,10 @@ pub enum Expr {
     },
     /// A call of a function of the program, by its number.
     Call(u32, Vec<Expr>),
-    /// A call of a service, with its argument where it has a parameter.
-    Serve(Service, Option<Box<Expr>>),
+    /// A call of a service without a parameter.
+    Serve(Service),
+    /// A call of a service with its argument.
+    ServeWith(Service, Box<Expr>),
 }
 
 impl Drop for Expr {
@@ -170,7 +172,8 @@ impl Drop for Expr {
                 whole: _,
             } => {}
             Expr::Call(_, _) => {}
-            Expr::Serve(_, _) => {}
+            Expr::Serve(_) => {}
+            Expr::ServeWith(_, _) => {}
         }
     }
 }

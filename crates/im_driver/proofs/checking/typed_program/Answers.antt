@@ -1,7 +1,7 @@
 use Rattle.std.proofs.Common.{List, ℕ, sym, subst, arith}
 use Rattle.im_ctree.specs.Shape.{tree_of}
 use Rattle.im_driver.specs.Refused.{IsRefusedFor}
-use Rattle.im_driver.specs.Steps.{HasCrowded, refused_at}
+use Rattle.im_driver.specs.Steps.{HasCrowded, IsTooDeep, refused_at}
 use Rattle.im_driver.proofs.Subjects.{read_refused_for, check_refused_for, deep_refused_for, starved}
 use Rattle.im_driver.proofs.checking.typed_program.Goals as goal
 
@@ -14,9 +14,10 @@ returns-in-Err-crowded_of c = rw c.whole-in-Err-crowded_of.ensures (starved c.ar
 pub returns-in-Err-shallow : goal.returns-in-Err-shallow
 returns-in-Err-shallow c =
     let text = c.in-Ok.ensures.1 in
+    let source = c.args.source.now in
     let refused = c.in-Err-shallow.refused in
-    let told = rw (c.deref-2.ensures.value, text.spans) at c.in-Err-shallow.ensures in
-    deep_refused_for c.args.source.now text.tokens c.in-Ok.text.tree (record { lexes = text.lexes; parsed = text.parsed }) refused told
+    let told = subst (λ (z : List (ℕ × ℕ)). IsTooDeep source z (tree_of c.in-Ok.text.tree) refused) text.spans (rw c.deref-2.ensures.value at c.in-Err-shallow.ensures) in
+    deep_refused_for source text.tokens c.in-Ok.text.tree (record { lexes = text.lexes; parsed = text.parsed }) refused told
 
 pub check-requires : goal.check-requires
 check-requires c =

@@ -1,0 +1,201 @@
+ghost use Rattle.std.specs.Prelude.{◌≡◌, ◌<◌, ◌≤◌, ◌+◌, ◌++◌, ◌∷◌, [], All, pos, drop, length, option_map, get_or, OnOk};
+ghost use Rattle.im_num.specs.Kinds as kinds;
+ghost use Rattle.im_rv.specs.declared.format.Format.TheVariants.{Immediate, Shift};
+ghost use Rattle.im_rv.specs.Formats.{format_of};
+ghost use Rattle.im_rv.specs.Lines.{code_lines, line_of};
+ghost use Rattle.im_block.specs.declared.code.Line.TheVariants.{Put};
+ghost use Rattle.im_alloc_placed.specs.Placed.{IsPlacedLine};
+ghost use Rattle.im_live.specs.Words.{has, IsMachineLine};
+ghost use Rattle.im_select.specs.Given.{given};
+ghost use Rattle.im_select.specs.Places.{at_of, HasPlaces, CallsBelow};
+ghost use Rattle.im_select.specs.Emitted.{by_low, by_bits, negated, immediate_line, word_taken, passed_by, put_code, operated_code, way_code, behind_at};
+
+use crate::branching::lives;
+use crate::computing::{by_sign, push_computed};
+use crate::lines::push_line;
+use crate::names::Names;
+use crate::push::{push, with_immediate};
+use crate::words::{high_part, low_part, push_constant, register, to_word};
+use im_block::Line as Placed;
+use im_num::{Kind, NoMemory};
+use im_rv::{Instr, Line, Op};
+use im_store::BinaryOp;
+
+/// An instruction with an immediate of 12 bits, if a word is one with its sign (RISC-V Unprivileged
+/// ISA, 2.4).
+fn by_low(op: Op, to: u32, left: u32, word: u32) -> Option<Instr>
+    requires form { format_of op ≡ Immediate }
+    requires to { to < 32 }
+    requires left { left < 32 }
+    ensures { option_map line_of result ≡ by_low op to left word }
+{
+    if high_part(word) == 0 {
+        Some(with_immediate(op, register(to), register(left), low_part(word)))
+    } else {
+        None
+    }
+}
+
+/// A shift by so many bits, if they are less than 32 (RISC-V Unprivileged ISA, 2.4).
+fn by_bits(op: Op, to: u32, left: u32, bits: u32) -> Option<Instr>
+    requires form { format_of op ≡ Shift }
+    requires to { to < 32 }
+    requires left { left < 32 }
+    ensures { option_map line_of result ≡ by_bits op to left bits }
+{
+    if bits < 32 {
+        Some(with_immediate(op, register(to), register(left), bits as i32))
+    } else {
+        None
+    }
+}
+
+/// The word of a number with the contrary sign.
+fn negated(word: u32) -> u32
+    ensures { result ≡ negated word }
+{
+    word.wrapping_neg()
+}
+
+/// An operator with a word on its right as one instruction, if there is one.
+fn immediate(to: u32, op: BinaryOp, kind: Kind, left: u32, word: u32) -> Option<Instr>
+    requires to { to < 32 }
+    requires left { left < 32 }
+    ensures { option_map line_of result ≡ immediate_line to op kind left word }
+{
+    match op {
+        BinaryOp::Add => by_low(Op::Addi, to, left, word),
+        BinaryOp::Subtract => by_low(Op::Addi, to, left, negated(word)),
+        BinaryOp::BitAnd => by_low(Op::Andi, to, left, word),
+        BinaryOp::BitOr => by_low(Op::Ori, to, left, word),
+        BinaryOp::BitXor => by_low(Op::Xori, to, left, word),
+        BinaryOp::ShiftLeft => by_bits(Op::Slli, to, left, word),
+        BinaryOp::ShiftRight => by_bits(by_sign(kind, Op::Srai, Op::Srli), to, left, word),
+        BinaryOp::Multiply | BinaryOp::Divide | BinaryOp::Remainder => None,
+    }
+}
+
+/// The word that a line takes as its immediate from the line before it, which puts it into a
+/// register: where nothing reads that behind the line. `behind` has the registers that live there.
+fn word_taken(behind: u32, constant: u32, word: u32, user: Placed) -> Option<u32>
+    requires constant { constant < 32 }
+    requires machine { IsMachineLine user }
+    ensures { result ≡ word_taken (has behind) constant word user }
+{
+    match user {
+        Placed::Compute {
+            to,
+            op,
+            kind,
+            left,
+            right,
+        } => {
+            let read = left == constant || constant != to && lives(behind, constant);
+            if right == constant && !read && immediate(to, op, kind, left, word).is_some() {
+                Some(word)
+            } else {
+                None
+            }
+        }
+        _ => None,
+    }
+}
+
+/// What a line passes to the next, if there is one: the word of a constant that it takes as its
+/// immediate. `behind` has the registers that live behind the next.
+fn passed_on(behind: u32, line: Placed, user: Placed) -> Option<u32>
+    requires line { IsMachineLine line }
+    requires user { IsMachineLine user }
+    ensures { result ≡ passed_by (has behind) line (user ∷ []) }
+{
+    match line {
+        Placed::Put { to, number } => word_taken(behind, to, to_word(number), user),
+        _ => None,
+    }
+}
+
+/// What a line passes to the next, by its number. A word of `points` has the registers that live
+/// before a line.
+pub(crate) fn passed_by(points: &[u32], placed: &[Placed], number: usize) -> Option<u32>
+    requires there { number < length placed.now }
+    requires enough { length placed.now + 1 ≤ length points.now }
+    requires machine { All IsMachineLine placed.now }
+    ensures { result ≡ passed_by (behind_at points.now (number + 1))
+        (get_or placed.now number (Put 0 (pos 0))) (drop (number + 1) placed.now) }
+{
+    if number + 1 < placed.len() {
+        passed_on(points[number + 2], placed[number], placed[number + 1])
+    } else {
+        None
+    }
+}
+
+/// A constant, unless it is passed on.
+fn push_put(
+    lines: &mut Vec<Line>,
+    passed: Option<u32>,
+    to: u32,
+    number: i128,
+) -> Result<(), NoMemory>
+    requires { to < 32 }
+    ensures { OnOk result (code_lines lines.new.items
+        ≡ code_lines lines.old.items ++ put_code passed to (kinds.word number)) }
+{
+    match passed {
+        Some(_) => Ok(()),
+        None => push_constant(lines, register(to), to_word(number)),
+    }
+}
+
+/// An operator, by one instruction where its right side is a constant that the line before it passed.
+fn push_operated(
+    lines: &mut Vec<Line>,
+    before: Option<u32>,
+    to: u32,
+    op: BinaryOp,
+    kind: Kind,
+    left: u32,
+    right: u32,
+) -> Result<(), NoMemory>
+    requires to { to < 32 }
+    requires left { left < 32 }
+    requires right { right < 32 }
+    ensures { OnOk result (code_lines lines.new.items
+        ≡ code_lines lines.old.items ++ operated_code before to op kind left right) }
+{
+    if let Some(word) = before {
+        if let Some(instr) = immediate(to, op, kind, left, word) {
+            return push(lines, instr);
+        }
+    }
+    push_computed(lines, to, op, kind, left, right)
+}
+
+/// The lines of one line of placed code, which passes a word to the next and takes one of the line
+/// before it. A cut has the entry.
+pub(crate) fn push_way(
+    lines: &mut Vec<Line>,
+    names: &Names,
+    entry: u32,
+    passed: Option<u32>,
+    before: Option<u32>,
+    line: Placed,
+) -> Result<(), NoMemory>
+    requires places { HasPlaces (given names.now) }
+    requires placed { IsPlacedLine (length names.now.statics.now) names.now.function.now line }
+    requires called { CallsBelow names.now.functions line }
+    ensures { OnOk result (code_lines lines.new.items ≡ code_lines lines.old.items
+        ++ way_code (at_of (given names.now)) entry passed before line) }
+{
+    match line {
+        Placed::Put { to, number } => push_put(lines, passed, to, number),
+        Placed::Compute {
+            to,
+            op,
+            kind,
+            left,
+            right,
+        } => { push_operated(lines, before, to, op, kind, left, right) }
+        _ => push_line(lines, names, entry, line),
+    }
+}
