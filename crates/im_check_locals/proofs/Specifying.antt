@@ -51,8 +51,8 @@ ordinary_begun {b0 = b0} {b1 = b1} {xs = xs} {ds = ds} o s =
     subst (λ z. IsSpecified b0 b1 z (d.tags_declared c xs ds)) (sym (o.asks c)) (subst (λ z. IsSpecified b0 b1 (d.specifiers_ask c xs) z) (sym (o.scopes c)) s)
 
 -- the site of the first declarator
-behind_them : {b0 b1 : Body} {xs : t.SpecifierList} {ds : t.InitDeclarators} → IsBegun b0 b1 xs ds → (w : Position) → site_of b1 w ≡ in_context (d.behind_tags (context_of b0.place) xs ds) (site_of b0 w)
-behind_them {b0 = b0} {b1 = b1} {xs = xs} {ds = ds} s w =
+behind_them : {b0 b1 : Body} (xs : t.SpecifierList) (ds : t.InitDeclarators) → IsBegun b0 b1 xs ds → (w : Position) → site_of b1 w ≡ in_context (d.behind_tags (context_of b0.place) xs ds) (site_of b0 w)
+behind_them {b0 = b0} {b1 = b1} xs ds s w =
     let same : b0.place.next_string + 0 ≡ b0.place.next_string = omega arith in
     let more : length b1.locals.items ≡ length b0.locals.items + 0 = more_locals s.behind.added in
     let count : length b1.locals.items ≡ length b0.locals.items = omega (arith, more) in
@@ -62,29 +62,29 @@ behind_them {b0 = b0} {b1 = b1} {xs = xs} {ds = ds} s w =
     ∙ ap (λ n. record (context_of b0.place) { scopes = d.tags_declared (context_of b0.place) xs ds; next_string = n }) same)
     (ap type_of s.behind.added.result) count
 
-pub declarators_fault : {b0 b1 : Body} {xs : t.SpecifierList} {ds : t.InitDeclarators} {q : d.Qualified} (at : ℕ) (f : Stop)
+pub declarators_fault : {b0 b1 : Body} {q : d.Qualified} (xs : t.SpecifierList) (ds : t.InitDeclarators) (at : ℕ) (f : Stop)
     → IsBegun b0 b1 xs ds
     → q ≡ d.type_of_specifiers (context_of b0.place) xs
     → AreLocalsFault q b1 ds f
     → IsDeclarationFault b0 (t.declaration (t.specifiers at xs) ds) f
-declarators_fault {b0 = b0} {b1 = b1} {xs = xs} {ds = ds} at (Rule rule token) s e h = λ w.
+declarators_fault {b0 = b0} {b1 = b1} xs ds at (Rule rule token) s e h = λ w.
     within_body (declared_locals s.meets)
-    (subst (λ z. BodyBroken z (some_locals (d.type_of_specifiers (context_of b0.place) xs) ds) rule token) (behind_them s w)
+    (subst (λ z. BodyBroken z (some_locals (d.type_of_specifiers (context_of b0.place) xs) ds) rule token) (behind_them xs ds s w)
     (subst (λ (z : d.Qualified). BodyBroken (site_of b1 w) (some_locals z ds) rule token) e (h w)))
-declarators_fault {b0 = b0} {b1 = b1} {xs = xs} {ds = ds} at (Large bytes) s e h = λ w. (
+declarators_fault {b0 = b0} {b1 = b1} xs ds at (Large bytes) s e h = λ w. (
   size_in_part (declared_locals s.meets)
-      (subst (λ z. BodySized z (some_locals (d.type_of_specifiers (context_of b0.place) xs) ds) bytes) (behind_them s w)
+      (subst (λ z. BodySized z (some_locals (d.type_of_specifiers (context_of b0.place) xs) ds) bytes) (behind_them xs ds s w)
       (subst (λ (z : d.Qualified). BodySized (site_of b1 w) (some_locals z ds) bytes) e (h w).0)),
   (h w).1,
 )
-declarators_fault at Memory s e h = λ w. tt
+declarators_fault xs ds at Memory s e h = λ w. tt
 
-pub declarators_done : {b0 b1 b2 : Body} {xs : t.SpecifierList} {ds : t.InitDeclarators} {q : d.Qualified} {done done' : List rs.Stmt} (at : ℕ)
+pub declarators_done : {b0 b1 b2 : Body} {q : d.Qualified} {done done' : List rs.Stmt} (xs : t.SpecifierList) (ds : t.InitDeclarators) (at : ℕ)
     → IsBegun b0 b1 xs ds
     → q ≡ d.type_of_specifiers (context_of b0.place) xs
     → LocalsDone q b1 b2 done done' ds
     → DeclarationDone b0 b2 done done' (t.declaration (t.specifiers at xs) ds)
-declarators_done {b0 = b0} {b1 = b1} {b2 = b2} {xs = xs} {ds = ds} {q = q} at s e r = record {
+declarators_done {b0 = b0} {b1 = b1} {b2 = b2} {q = q} xs ds at s e r = record {
   entries = s.entries ++ r.entries;
   added = r.added;
   behind = declared_then s.behind r.behind;
@@ -96,20 +96,20 @@ declarators_done {b0 = b0} {b1 = b1} {b2 = b2} {xs = xs} {ds = ds} {q = q} at s 
       subst (λ z. AreLocals q (site_of b1 w) ds (stmts_from z r.statements) r.added end) (structs_stay s.behind.added) (r.typed w) in
       let h₂ : AreLocals (d.type_of_specifiers (context_of b0.place) xs) (site_of b1 w) ds (stmts_from b0.place.structs r.statements) r.added end =
       subst (λ (z : d.Qualified). AreLocals z (site_of b1 w) ds (stmts_from b0.place.structs r.statements) r.added end) e h₁ in
-      of_declaration s.meets (subst (λ z. AreLocals (d.type_of_specifiers (context_of b0.place) xs) z ds (stmts_from b0.place.structs r.statements) r.added end) (behind_them s w) h₂);
+      of_declaration s.meets (subst (λ z. AreLocals (d.type_of_specifiers (context_of b0.place) xs) z ds (stmts_from b0.place.structs r.statements) r.added end) (behind_them xs ds s w) h₂);
   within = λ w.
       let h₁ : IsBodyWithin (site_of b1 w) (some_locals (d.type_of_specifiers (context_of b0.place) xs) ds) =
       subst (λ (z : d.Qualified). IsBodyWithin (site_of b1 w) (some_locals z ds)) e (r.within w) in
-      declaration_within (subst (λ z. IsBodyWithin z (some_locals (d.type_of_specifiers (context_of b0.place) xs) ds)) (behind_them s w) h₁);
+      declaration_within (subst (λ z. IsBodyWithin z (some_locals (d.type_of_specifiers (context_of b0.place) xs) ds)) (behind_them xs ds s w) h₁);
 }
 
-pub declaration_done : {b0 b1 : Body} {xs : t.SpecifierList} {ds : t.InitDeclarators} {q : d.Qualified} (b2 : Body) (done done' : List rs.Stmt) (at : ℕ) (result : Result Unit Stop)
+pub declaration_done : {b0 b1 : Body} {q : d.Qualified} (xs : t.SpecifierList) (ds : t.InitDeclarators) (b2 : Body) (done done' : List rs.Stmt) (at : ℕ) (result : Result Unit Stop)
     → IsBegun b0 b1 xs ds
     → q ≡ d.type_of_specifiers (context_of b0.place) xs
     → MatchResult result (λ u. LocalsDone q b1 b2 done done' ds) (AreLocalsFault q b1 ds)
     → MatchResult result (λ u. DeclarationDone b0 b2 done done' (t.declaration (t.specifiers at xs) ds)) (IsDeclarationFault b0 (t.declaration (t.specifiers at xs) ds))
-declaration_done b2 done done' at (Ok u) s e h = declarators_done at s e h
-declaration_done b2 done done' at (Err f) s e h = declarators_fault at f s e h
+declaration_done xs ds b2 done done' at (Ok u) s e h = declarators_done xs ds at s e h
+declaration_done xs ds b2 done done' at (Err f) s e h = declarators_fault xs ds at f s e h
 
 -- a declaration that is a struct's tag alone does nothing else
 lone_done : (b0 b1 : Body) (done : List rs.Stmt) (at first : ℕ) (x : Name) (result : Result Unit Stop)
@@ -118,7 +118,7 @@ lone_done : (b0 b1 : Body) (done : List rs.Stmt) (at first : ℕ) (x : Name) (re
     (IsDeclarationFault b0 (t.declaration (t.specifiers at (lone first x)) t.no_init_declarators))
 lone_done b0 b1 done at first x (Ok u) s =
     let q = d.type_of_specifiers (context_of b0.place) (lone first x) in
-    declarators_done at s refl (reached_all {xs = []} refl (reached_none q b1 done []))
+    declarators_done (lone first x) t.no_init_declarators at s refl (reached_all {xs = []} refl (reached_none q b1 done []))
 lone_done b0 b1 done at first x (Err f) h = specifiers_fault b0 at (lone first x) t.no_init_declarators f h
 
 pub alone_done : (b0 b1 : Body) (done : List rs.Stmt) (at first : ℕ) (x : Name) (xs : t.SpecifierList) (ds : t.InitDeclarators) (result : Result Unit Stop)

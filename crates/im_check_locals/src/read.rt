@@ -73,7 +73,7 @@ pub(crate) fn declared_alone(
     lone: LoneTag<'_>,
     body: &mut Body,
 ) -> Result<(), Stop>
-    ensures { let xs = tags.lone lone.at lone.tag.now.items in let c = context_of body.old.place in
+    ensures { let xs = tags.lone lone.entry.at lone.entry.tag.now.items in let c = context_of body.old.place in
         let asked = d.declaration_asks c xs t.no_init_declarators in
         MatchResult result (λ u. IsSpecified body.old body.new asked
         (d.tags_declared c xs t.no_init_declarators)) (IsRefusal asked at) }

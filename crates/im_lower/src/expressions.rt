@@ -154,18 +154,20 @@ pub(crate) fn lower_expression(
             lower_expression(code, left, free, above, prog, first)
         }
         Expr::Discard(operand) => lower_expression(code, operand, to, free, prog, first),
-        Expr::Assign(Access::Scalar(kind), place, value) => {
-            code.put_write(place_at(place, free, first)?, *kind, to)?;
-            lower_expression(code, value, to, behind(place, free)?, prog, first)?;
-            lower_place(code, place, free, prog, first)
-        }
-        Expr::Assign(Access::Struct { number, .. }, place, value) => {
-            let from = behind(place, free)?;
-            let cells = cells_of_struct(code.alloc(), *number, &prog.types)?;
-            put_copy(code, to, from, place_at(place, free, first)?, &cells)?;
-            lower_expression(code, value, from, next(from)?, prog, first)?;
-            lower_place(code, place, free, prog, first)
-        }
+        Expr::Assign(access, place, value) => match access {
+            Access::Scalar(kind) => {
+                code.put_write(place_at(place, free, first)?, *kind, to)?;
+                lower_expression(code, value, to, behind(place, free)?, prog, first)?;
+                lower_place(code, place, free, prog, first)
+            }
+            Access::Struct { number, .. } => {
+                let from = behind(place, free)?;
+                let cells = cells_of_struct(code.alloc(), *number, &prog.types)?;
+                put_copy(code, to, from, place_at(place, free, first)?, &cells)?;
+                lower_expression(code, value, from, next(from)?, prog, first)?;
+                lower_place(code, place, free, prog, first)
+            }
+        },
         Expr::Update { place, change, by } => {
             let at = place_at(place, free, first)?;
             let from = behind(place, free)?;

@@ -1,4 +1,4 @@
-mod Mirror
+pub mod Mirror
 mod Steps
 mod Cuts
 mod Stores

@@ -15,4 +15,4 @@ returns-in_err-q c =
 pub returns : goal.returns
 returns c =
     let s = out-Specifiers c.args.d.now.specifiers in
-    rw (specifiers_shape c.args.d.now.specifiers) (declaration_done _ _ _ s.at c.locals.result (ordinary_begun c.requires c.in_ok-q.ensures.0) c.in_ok-q.ensures.1 (rw c.deref.ensures.value at c.locals.ensures))
+    rw (specifiers_shape c.args.d.now.specifiers) (declaration_done (list_from s.items.items) (init_declarators_of c.args.d.now.declarators.items) _ _ _ s.at c.locals.result (ordinary_begun c.requires c.in_ok-q.ensures.0) c.in_ok-q.ensures.1 (rw c.deref.ensures.value at c.locals.ensures))

@@ -43,3 +43,6 @@ returns-clause-goes c =
     rw c.in-Store.is (λ n here ts s i.
     then-goes code n here ts vs c.in_ok-used-in-Store.field-0 s (write_at (access_of (types_of code) c.in-Store.access) (shown c.in-Store.place) vs) (λ ws. follows code n here ts (Valued ws))
     vs (Just (Value c.args.found)) c.write_at.new.machine (c.in_ok-used-in-Store.ensures s i) (c.in_ok-write_at-in-Store.ensures.ends s i) (λ t. refl))
+
+pub returns-in-Comma-clause-goes : goal.returns-in-Comma-clause-goes
+returns-in-Comma-clause-goes c = rw (c.deref.ensures, c.in-Comma.is) (λ n here ts s i. (s, i, refl))

@@ -1,7 +1,12 @@
-use Rattle.std.proofs.Common.{rules, ap}
+use Rattle.std.proofs.Common.{◌≡◌, OnOk, ℕ, rules, ap, sym, ◌∙◌, subst}
+use Rattle.im_ctype.specs.Layout.{layouts, layout_at}
+use Rattle.im_ctype.specs.Table.{structs_of}
 use Rattle.im_typed.specs.declared.expression.Expr.{Expr}
-use Rattle.im_typed.specs.ProgramOf.{expr_of, program_of}
-use Rattle.im_lower_plain.specs.Make.{make}
+use Rattle.im_typed.specs.declared.expression.Place.{Place}
+use Rattle.im_typed.specs.ProgramOf.{expr_of, place_of, program_of}
+use Rattle.im_lower_plain.specs.Made.{Made}
+use Rattle.im_lower_plain.specs.Make.{behind, make, make_place, place_at, put_operator}
+use Rattle.im_lower.proofs.Makes.{choice_made, copy_made, increment_made, operator_made, struct_made, two_made}
 use Rattle.im_lower.proofs.Rows.{call_made}
 use Rattle.im_lower.proofs.expressions.+expressions.Goals as goal
 
@@ -12,3 +17,75 @@ lower_expression-returns-in_ok-put-in-Call t c =
     let same = ap (λ (e : Expr). make g c.args.first (expr_of types e) c.args.to c.args.free c.args.code.now) c.in-Call.is in
     let counted = call_made g c.args.first types c.in-Call.function c.in-Call.arguments c.args.to c.args.free c.args.code.now in
     search (rules, same, counted)
+
+pub lower_expression-returns-in_ok-put_increment-in-Increment : goal.lower_expression-returns-in_ok-put_increment-in-Increment
+lower_expression-returns-in_ok-put_increment-in-Increment t c =
+    let g = program_of c.args.prog.now in
+    let types = c.args.prog.now.types in
+    let w = c.in-Increment in
+    let m = c.args.code.now in
+    let put = c.put_increment.new.code in
+    let at = c.in_ok-at-in-Increment.ensures types ∙ ap (λ (x : Place). place_at c.args.first (place_of types x) c.args.free) c.deref-in-Increment.ensures in
+    let beside = c.in_ok-behind-in-Increment.ensures types ∙ ap (λ (x : Place). behind (place_of types x) c.args.free) c.deref-in-Increment-2.ensures in
+    let made = increment_made g c.args.first (place_of types w.place.value) w.change w.old c.args.to c.args.free c.in_ok-behind-in-Increment.field-0 c.in_ok-at-in-Increment.at m put at beside c.in_ok-put_increment-in-Increment.ensures in
+    let walked = ap (λ (x : Place). make_place g c.args.first (place_of types x) c.args.free put) c.deref-in-Increment-3.ensures in
+    let whole = ap (λ (e : Expr). make g c.args.first (expr_of types e) c.args.to c.args.free m) w.is in
+    subst (λ (z : Made). OnOk c.lower_place-in-Increment.result (c.lower_place-in-Increment.new.code ≡ z)) (walked ∙ made ∙ sym whole) c.lower_place-in-Increment.ensures
+
+pub lower_expression-returns-in_ok-start-in-Choose-2 : goal.lower_expression-returns-in_ok-start-in-Choose-2
+lower_expression-returns-in_ok-start-in-Choose-2 t c =
+    let g = program_of c.args.prog.now in
+    let types = c.args.prog.now.types in
+    let w = c.in-Choose in
+    let m = c.args.code.now in
+    let m₁ = c.close-in-Choose.new.self in
+    let m₂ = c.lower_expression-in-Choose.new.code in
+    let m₃ = c.close-in-Choose-2.new.self in
+    let m₄ = c.start-in-Choose.new.self in
+    let m₅ = c.lower_expression-in-Choose-2.new.code in
+    let m₆ = c.close-in-Choose-3.new.self in
+    let m₇ = c.start-in-Choose-2.new.self in
+    let other = c.in_ok-lower_expression-in-Choose.ensures ∙ ap (λ (x : Expr). make g c.args.first (expr_of types x) c.args.to c.args.free m₁) c.deref-in-Choose.ensures in
+    let one = c.in_ok-lower_expression-in-Choose-2.ensures ∙ ap (λ (x : Expr). make g c.args.first (expr_of types x) c.args.to c.args.free m₄) c.deref-in-Choose-2.ensures in
+    let made = choice_made g c.args.first (expr_of types w.test.value) (expr_of types w.one.value) (expr_of types w.other.value) c.args.to c.args.free c.in_ok-above.above c.in_ok-join-in-Choose.join c.in_ok-fails-in-Choose.fails c.in_ok-holds-in-Choose.holds m m₁ m₂ m₃ m₄ m₅ m₆ m₇ c.in_ok-above.ensures c.in_ok-join-in-Choose.ensures.number c.in_ok-join-in-Choose.ensures.closed other c.in_ok-fails-in-Choose.ensures.number c.in_ok-fails-in-Choose.ensures.closed c.in_ok-start-in-Choose.ensures one c.in_ok-holds-in-Choose.ensures.number c.in_ok-holds-in-Choose.ensures.closed c.in_ok-start-in-Choose-2.ensures in
+    let tested = ap (λ (x : Expr). make g c.args.first (expr_of types x) c.args.free c.in_ok-above.above m₇) c.deref-in-Choose-3.ensures in
+    let whole = ap (λ (e : Expr). make g c.args.first (expr_of types e) c.args.to c.args.free m) w.is in
+    subst (λ (z : Made). OnOk c.lower_expression-in-Choose-3.result (c.lower_expression-in-Choose-3.new.code ≡ z)) (tested ∙ made ∙ sym whole) c.lower_expression-in-Choose-3.ensures
+
+pub lower_expression-returns-in_ok-lower_expression-in-Binary : goal.lower_expression-returns-in_ok-lower_expression-in-Binary
+lower_expression-returns-in_ok-lower_expression-in-Binary t c =
+    let g = program_of c.args.prog.now in
+    let types = c.args.prog.now.types in
+    let w = c.in-Binary in
+    let m = c.args.code.now in
+    let m₁ = c.put_operator.new.code in
+    let m₂ = c.lower_expression-in-Binary.new.code in
+    let further = c.in_ok-next-in-Binary.field-0 in
+    let second = c.in_ok-lower_expression-in-Binary.ensures ∙ ap (λ (x : Expr). make g c.args.first (expr_of types x) c.in_ok-above.above further m₁) c.deref-in-Binary.ensures in
+    let line = put_operator (expr_of types c.args.expression.now) c.args.to c.args.free m in
+    let both = two_made g c.args.first (expr_of types w.left.value) (expr_of types w.right.value) c.args.free c.in_ok-above.above further line m₁ m₂ c.in_ok-above.ensures c.in_ok-next-in-Binary.ensures second (c.in_ok-put_operator-in-Binary.ensures types) in
+    let left = ap (λ (x : Expr). make g c.args.first (expr_of types x) c.args.free c.in_ok-above.above m₂) c.deref-in-Binary-2.ensures in
+    let whole = operator_made g c.args.first types c.args.expression.now w.left w.right c.args.to c.args.free m w.is in
+    subst (λ (z : Made). OnOk c.lower_expression-in-Binary-2.result (c.lower_expression-in-Binary-2.new.code ≡ z)) (left ∙ both ∙ whole) c.lower_expression-in-Binary-2.ensures
+
+pub lower_expression-returns-in_ok-lower_expression-in-Struct : goal.lower_expression-returns-in_ok-lower_expression-in-Struct
+lower_expression-returns-in_ok-lower_expression-in-Struct t c =
+    let g = program_of c.args.prog.now in
+    let types = c.args.prog.now.types in
+    let w = c.in-Assign in
+    let s = c.in-Struct in
+    let m = c.args.code.now in
+    let a = place_of types w.place.value in
+    let e = expr_of types w.value.value in
+    let m₁ = c.put_copy.new.code in
+    let m₂ = c.lower_expression-in-Struct.new.code in
+    let from = c.in_ok-from-in-Struct.from in
+    let beside = c.in_ok-next-in-Struct.field-0 in
+    let behind_is = c.in_ok-from-in-Struct.ensures types ∙ ap (λ (x : Place). behind (place_of types x) c.args.free) c.deref-in-Struct.ensures in
+    let at_is = c.in_ok-place_at-in-Struct.ensures types ∙ ap (λ (x : Place). place_at c.args.first (place_of types x) c.args.free) c.deref-in-Struct-2.ensures in
+    let found_is = c.deref-in-Struct-3.ensures.value ∙ c.in_ok-cells-in-Struct.ensures in
+    let value_is = c.in_ok-lower_expression-in-Struct.ensures ∙ ap (λ (x : Expr). make g c.args.first (expr_of types x) from beside m₁) c.deref-in-Struct-4.ensures in
+    let made = copy_made g c.args.first a e s.cells (layout_at (layouts (structs_of types)) s.number).cells c.deref-in-Struct-3.result.now c.args.to c.args.free from beside c.in_ok-place_at-in-Struct.field-0 m m₁ m₂ behind_is found_is at_is c.in_ok-put_copy-in-Struct.ensures c.in_ok-next-in-Struct.ensures value_is in
+    let walked = ap (λ (x : Place). make_place g c.args.first (place_of types x) c.args.free m₂) c.deref-in-Struct-5.ensures in
+    let whole = struct_made g c.args.first types c.args.expression.now w.access w.place w.value s.number s.cells c.args.to c.args.free m w.is s.is in
+    subst (λ (z : Made). OnOk c.lower_place-in-Struct.result (c.lower_place-in-Struct.new.code ≡ z)) (walked ∙ made ∙ whole) c.lower_place-in-Struct.ensures

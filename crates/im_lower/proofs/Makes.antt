@@ -1,0 +1,104 @@
+-- What an expression puts, from what its parts put in turn: a step for each call of the code.
+use Rattle.std.proofs.Common.{◌≡◌, ◌⊎◌, inl, inr, ℕ, ◌+◌, Bool, List, length, ap, sym, ◌∙◌, Box, Global}
+use Rattle.im_num.specs.declared.kind.Kind.{Kind}
+use Rattle.im_ctype.specs.declared.cell.Cell.{Cell}
+use Rattle.im_ctype.specs.Layout.{layouts, layout_at}
+use Rattle.im_ctype.specs.Table.{Table, structs_of}
+use Rattle.im_store.specs.declared.operators.BinaryOp.{BinaryOp}
+use Rattle.im_store.specs.declared.operators.Comparison.{Comparison}
+use Rattle.im_typed.specs.declared.expression.Change.{Change}
+use Rattle.im_typed.specs.declared.expression.Access.{Access}
+use Rattle.im_typed.specs.declared.expression.Access.TheVariants as ra
+use Rattle.im_typed.specs.declared.expression.Expr as re
+use Rattle.im_typed.specs.declared.expression.Place as rp
+use Rattle.im_typed.specs.Program as p
+use Rattle.im_typed.specs.ProgramOf.{access_of, expr_of, place_of}
+use Rattle.im_block.specs.declared.code.Exit.TheVariants.{Jump, Branch}
+use Rattle.im_block.specs.declared.code.Place.{Place}
+use Rattle.im_lower_plain.specs.Made.{Made, close, start}
+use Rattle.im_lower_plain.specs.Make.{behind, make, make_place, place_at, put_copy, put_increment, put_operator}
+
+module _ (g : p.Prog) (first : ℕ) where
+  pub choice_made : (q a b : p.Expr) (to free above join fails holds : ℕ) (m m₁ m₂ m₃ m₄ m₅ m₆ m₇ : Made)
+      → above ≡ free + 1 → join ≡ length m.blocks → m₁ ≡ close m → m₂ ≡ make g first b to free m₁
+      → fails ≡ length m₂.blocks → m₃ ≡ close m₂ → m₄ ≡ start (Jump join) m₃ → m₅ ≡ make g first a to free m₄
+      → holds ≡ length m₅.blocks → m₆ ≡ close m₅ → m₇ ≡ start (Branch free holds fails) m₆
+      → make g first q free above m₇ ≡ make g first (p.Choose q a b) to free m
+  choice_made q a b to free above join fails holds m m₁ m₂ m₃ m₄ m₅ m₆ m₇ is_above is_join is₁ is₂ is_fails is₃ is₄ is₅ is_holds is₆ is₇ =
+      let other : Made = make g first b to free (close m) in
+      let one : Made = make g first a to free (start (Jump (length m.blocks)) (close other)) in
+      let to_other : m₂ ≡ other = is₂ ∙ ap (make g first b to free) is₁ in
+      let joined : m₄ ≡ start (Jump (length m.blocks)) (close other) =
+      is₄ ∙ ap (λ j. start (Jump j) m₃) is_join ∙ ap (start (Jump (length m.blocks))) (is₃ ∙ ap close to_other) in
+      let to_one : m₅ ≡ one = is₅ ∙ ap (make g first a to free) joined in
+      let to_holds : holds ≡ length one.blocks = is_holds ∙ ap (λ (x : Made). length x.blocks) to_one in
+      let to_fails : fails ≡ length other.blocks = is_fails ∙ ap (λ (x : Made). length x.blocks) to_other in
+      let branched : m₇ ≡ start (Branch free (length one.blocks) (length other.blocks)) (close one) =
+      is₇ ∙ ap (λ h. start (Branch free h fails) m₆) to_holds ∙ ap (λ f. start (Branch free (length one.blocks) f) m₆) to_fails
+      ∙ ap (start (Branch free (length one.blocks) (length other.blocks))) (is₆ ∙ ap close to_one) in
+      ap (λ n. make g first q free n m₇) is_above ∙ ap (make g first q free (free + 1)) branched
+
+  pub increment_made : (a : p.Place) (change : Change) (old : Bool) (to free beside : ℕ) (at : Place) (m m₁ : Made)
+      → at ≡ place_at first a free → beside ≡ behind a free → m₁ ≡ put_increment change old to beside at m
+      → make_place g first a free m₁ ≡ make g first (p.Increment a change old) to free m
+  increment_made a change old to free beside at m m₁ is_at is_beside is₁ =
+      ap (make_place g first a free)
+      (is₁ ∙ ap (λ n. put_increment change old to n at m) is_beside ∙ ap (λ x. put_increment change old to (behind a free) x m) is_at)
+
+  pub copy_made : (a : p.Place) (e : p.Expr) (count : ℕ) (cells found : List Cell) (to free from beside : ℕ) (at : Place) (m m₁ m₂ : Made)
+      → from ≡ behind a free → found ≡ cells → at ≡ place_at first a free → m₁ ≡ put_copy to from at found m
+      → beside ≡ from + 1 → m₂ ≡ make g first e from beside m₁
+      → make_place g first a free m₂ ≡ make g first (p.Assign (p.Struct count cells) a e) to free m
+  copy_made a e count cells found to free from beside at m m₁ m₂ is_from is_found is_at is₁ is_beside is₂ =
+      let put : m₁ ≡ put_copy to (behind a free) (place_at first a free) cells m =
+      is₁ ∙ ap (λ n. put_copy to n at found m) is_from ∙ ap (λ x. put_copy to (behind a free) x found m) is_at
+      ∙ ap (λ cs. put_copy to (behind a free) (place_at first a free) cs m) is_found in
+      let next : beside ≡ behind a free + 1 = is_beside ∙ ap (λ n. n + 1) is_from in
+      ap (make_place g first a free)
+      (is₂ ∙ ap (λ n. make g first e n beside m₁) is_from ∙ ap (λ n. make g first e (behind a free) n m₁) next
+      ∙ ap (make g first e (behind a free) (behind a free + 1)) put)
+
+  -- the code of two operands, the first in the register free and the second behind it
+  pub two_made : (a b : p.Expr) (free above further : ℕ) (m m₁ m₂ : Made) → above ≡ free + 1 → further ≡ above + 1
+      → m₂ ≡ make g first b above further m₁ → m₁ ≡ m
+      → make g first a free above m₂ ≡ make g first a free (free + 1) (make g first b (free + 1) (free + 1 + 1) m)
+  two_made a b free above further m m₁ m₂ is_above is_further is₂ is₁ =
+      let beyond : further ≡ free + 1 + 1 = is_further ∙ ap (λ n. n + 1) is_above in
+      let second : m₂ ≡ make g first b (free + 1) (free + 1 + 1) m =
+      is₂ ∙ ap (λ n. make g first b n further m₁) is_above ∙ ap (λ n. make g first b (free + 1) n m₁) beyond
+      ∙ ap (make g first b (free + 1) (free + 1 + 1)) is₁ in
+      ap (λ n. make g first a free n m₂) is_above ∙ ap (make g first a free (free + 1)) second
+
+  -- an operator's line is the last of what an expression with two operands puts
+  pub operator_made : (types : Table) (x : re.Expr) (l r : Box re.Expr Global) (to free : ℕ) (m : Made)
+      → ((op : BinaryOp) × (kind : Kind) × (x ≡ re.Binary op kind l r))
+      ⊎ (((size : ℕ) × (back : Bool) × (x ≡ re.Move size back l r))
+      ⊎ (((size : ℕ) × (x ≡ re.MoveBy size l r))
+      ⊎ (((size : ℕ) × (x ≡ re.Distance size l r))
+      ⊎ ((op : Comparison) × (kind : Kind) × (x ≡ re.Compare op kind l r)))))
+      → make g first (expr_of types l.value) free (free + 1) (make g first (expr_of types r.value) (free + 1) (free + 1 + 1) (put_operator (expr_of types x) to free m))
+      ≡ make g first (expr_of types x) to free m
+  operator_made types x l r to free m (inl h) =
+      ap (λ y. make g first (expr_of types l.value) free (free + 1) (make g first (expr_of types r.value) (free + 1) (free + 1 + 1) (put_operator (expr_of types y) to free m))) h.2
+      ∙ sym (ap (λ y. make g first (expr_of types y) to free m) h.2)
+  operator_made types x l r to free m (inr (inl h)) =
+      ap (λ y. make g first (expr_of types l.value) free (free + 1) (make g first (expr_of types r.value) (free + 1) (free + 1 + 1) (put_operator (expr_of types y) to free m))) h.2
+      ∙ sym (ap (λ y. make g first (expr_of types y) to free m) h.2)
+  operator_made types x l r to free m (inr (inr (inl h))) =
+      ap (λ y. make g first (expr_of types l.value) free (free + 1) (make g first (expr_of types r.value) (free + 1) (free + 1 + 1) (put_operator (expr_of types y) to free m))) h.1
+      ∙ sym (ap (λ y. make g first (expr_of types y) to free m) h.1)
+  operator_made types x l r to free m (inr (inr (inr (inl h)))) =
+      ap (λ y. make g first (expr_of types l.value) free (free + 1) (make g first (expr_of types r.value) (free + 1) (free + 1 + 1) (put_operator (expr_of types y) to free m))) h.1
+      ∙ sym (ap (λ y. make g first (expr_of types y) to free m) h.1)
+  operator_made types x l r to free m (inr (inr (inr (inr h)))) =
+      ap (λ y. make g first (expr_of types l.value) free (free + 1) (make g first (expr_of types r.value) (free + 1) (free + 1 + 1) (put_operator (expr_of types y) to free m))) h.2
+      ∙ sym (ap (λ y. make g first (expr_of types y) to free m) h.2)
+
+  -- an assignment of a struct, by the struct's number
+  pub struct_made : (types : Table) (x : re.Expr) (access : Access) (place : Box rp.Place Global) (value : Box re.Expr Global) (number count to free : ℕ) (m : Made)
+      → x ≡ re.Assign access place value → access ≡ ra.Struct number count
+      → make g first (p.Assign (p.Struct count (layout_at (layouts (structs_of types)) number).cells) (place_of types place.value) (expr_of types value.value)) to free m
+      ≡ make g first (expr_of types x) to free m
+  struct_made types x access place value number count to free m is is_struct =
+      sym (ap (λ (y : Access). make g first (p.Assign (access_of types y) (place_of types place.value) (expr_of types value.value)) to free m) is_struct)
+      ∙ sym (ap (λ (y : re.Expr). make g first (expr_of types y) to free m) is)
