@@ -74,7 +74,7 @@ fault_text BadNumber token = told (codes "bad number") [] token (codes "it is no
 fault_text BadDirective token = told (codes "bad directive") [] token (codes "only line markers begin with #")
 fault_text Syntax token = told (codes "syntax") [] token (syntax_sentence token)
 fault_text Nesting token = told (codes "nesting over 200") [] token (codes "more than 200 stand in one another")
-fault_text Links token = told (codes "links over 512") [] token (codes "more than 512 parentheses, brackets and commas stand in a row")
+fault_text Links token = told (codes "links over 512") [] token (codes "more than 512 parentheses, brackets and comma operators stand in one statement")
 fault_text (Rule number) token = told (codes "rule ") (decimal number) token (rule_sentence number)
 
 -- what a limit asks for

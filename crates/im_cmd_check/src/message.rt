@@ -140,7 +140,7 @@ fn send_why<S: Sink>(sink: &mut S, why: LineFault, token: &[u8]) -> Result<(), F
             b"links over 512",
             b"",
             token,
-            b"more than 512 parentheses, brackets and commas stand in a row",
+            b"more than 512 parentheses, brackets and comma operators stand in one statement",
         ),
         LineFault::Rule(number) => send_rule(sink, number, token),
     }
