@@ -1,1 +1,7 @@
+pub mod Below
 pub mod Cases
+pub mod Naming
+pub mod Numbers
+pub mod Reading
+pub mod Taking
+pub mod Tests

@@ -1,7 +1,11 @@
-ghost use Rattle.std.specs.Prelude.{◌≡◌, [], ◌∷◌, None, Some, IfSome, MatchResult, codes, string_bytes};
-ghost use Rattle.im_trial.specs.Finding.{Finds, IsEnded, first_stop, found_of, without_blank as text_without_blank};
+ghost use Rattle.std.specs.Prelude.{◌≡◌, ◌<◌, [], ◌∷◌, None, Some, IfSome, MatchResult, codes, pos, string_bytes, unwrap_or};
+ghost use Rattle.im_trial.specs.Escapes.{quoted as quoted_of};
+ghost use Rattle.im_trial.specs.Finding.{EndsUnless, Finds, IsEnded, Parts, Reads, first_stop, found_of, parted_at, without_blank as text_without_blank};
+ghost use Rattle.im_trial.specs.Numbers.{integer_in, word_digits, word_in};
+ghost use Rattle.im_trial.specs.Texts.{bytes_of as field_bytes, words_of as field_words};
 ghost use Rattle.im_trial.specs.declared.stop.Stop.TheVariants.{Memory};
 
+use crate::escapes::{quoted, word_text};
 use crate::fields::{number_of, small_of, word_of};
 use crate::row::Row;
 use crate::stop::Stop;
@@ -63,7 +67,7 @@ impl Case {
     {
         match self.stop {
             Some(Stop::Row) => "no case",
-            Some(Stop::Memory) => "no memory",
+            Some(Stop::Memory) => "out of memory",
             Some(Stop::Files) => "no file",
             None => without_blank(&self.text),
         }
@@ -126,42 +130,29 @@ impl Case {
     }
 
     /// Finds a word of 32 bits in hexadecimal digits, behind a blank.
-    pub fn word(&mut self, word: u32) {
-        let text = format!(in self.alloc; " {word:08x}");
+    pub fn word(&mut self, word: u32)
+        ensures { Finds (32 ∷ word_digits word) self.old self.new }
+    {
+        let text = word_text(self.alloc, word);
         self.tell(text);
     }
 
-    fn byte(&mut self, byte: u8) {
-        match byte {
-            b'\n' => self.say("\\n"),
-            b'\t' => self.say("\\t"),
-            b'\\' => self.say("\\\\"),
-            b'"' => self.say("\\\""),
-            b' '..=b'~' => {
-                if self.text.push(char::from(byte)).is_err() {
-                    self.end(Stop::Memory);
-                }
-            }
-            _ => {
-                let text = format!(in self.alloc; "\\x{byte:02x}");
-                self.tell(text);
-            }
-        }
-    }
-
     /// Finds bytes, behind a blank and between quotes, with the escapes of a field.
-    pub fn bytes(&mut self, bytes: &[u8]) {
-        self.say(" \"");
-        for byte in bytes {
-            self.byte(*byte);
-        }
-        self.say("\"");
+    pub fn bytes(&mut self, bytes: &[u8])
+        ensures { Finds (quoted_of bytes.now) self.old self.new }
+    {
+        let text = quoted(self.alloc, bytes);
+        self.tell(text);
     }
 }
 
 // What is read. Where a text is out of form the case ends, and goes on with nothing.
 impl Case {
-    fn or<T: Copy>(&mut self, read: Result<T, Stop>, nothing: T) -> T {
+    fn or<T: Copy>(&mut self, read: Result<T, Stop>, nothing: T) -> T
+        ensures value { MatchResult read (λ value. result ≡ value) (λ _. result ≡ nothing) }
+        ensures case { MatchResult read (λ _. self.new ≡ self.old)
+            (λ stop. IsEnded stop self.old self.new) }
+    {
         match read {
             Ok(value) => value,
             Err(stop) => {
@@ -172,22 +163,34 @@ impl Case {
     }
 
     /// A number of 32 bits, of decimal digits.
-    pub fn small(&mut self, text: &str) -> u32 {
+    pub fn small(&mut self, text: &str) -> u32
+        ensures number { result ≡ unwrap_or (word_in 10 text.now) 0 }
+        ensures case { EndsUnless (word_in 10 text.now) self.old self.new }
+    {
         self.or(small_of(text), 0)
     }
 
     /// A number of decimal digits, maybe with a sign.
-    pub fn number(&mut self, text: &str) -> i64 {
+    pub fn number(&mut self, text: &str) -> i64
+        ensures number { result ≡ unwrap_or (integer_in text.now) (pos 0) }
+        ensures case { EndsUnless (integer_in text.now) self.old self.new }
+    {
         self.or(number_of(text), 0)
     }
 
     /// A word of 32 bits, of hexadecimal digits.
-    pub fn hex(&mut self, text: &str) -> u32 {
+    pub fn hex(&mut self, text: &str) -> u32
+        ensures word { result ≡ unwrap_or (word_in 16 text.now) 0 }
+        ensures case { EndsUnless (word_in 16 text.now) self.old self.new }
+    {
         self.or(word_of(text), 0)
     }
 
-    /// The texts before and behind the first such mark.
-    pub fn parted<'a>(&mut self, text: &'a str, mark: char) -> (&'a str, &'a str) {
+    /// The texts before and behind the first such mark, which is of ASCII.
+    pub fn parted<'a>(&mut self, text: &'a str, mark: char) -> (&'a str, &'a str)
+        ensures parts { mark < 128 → Parts (parted_at mark text.now) result }
+        ensures case { mark < 128 → EndsUnless (parted_at mark text.now) self.old self.new }
+    {
         match text.split_once(mark) {
             Some(parts) => parts,
             None => {
@@ -198,7 +201,9 @@ impl Case {
     }
 
     /// The bytes of a field.
-    pub fn bytes_of(&mut self, texts: &Texts, row: &Row<'_>, number: usize) -> Vec<u8> {
+    pub fn bytes_of(&mut self, texts: &Texts, row: &Row<'_>, number: usize) -> Vec<u8>
+        ensures { Reads (field_bytes texts.now row.now number) result.items self.old self.new }
+    {
         match row.bytes(self.alloc, texts, number) {
             Ok(bytes) => bytes,
             Err(stop) => {
@@ -209,7 +214,9 @@ impl Case {
     }
 
     /// The words of a field.
-    pub fn words_of(&mut self, row: &Row<'_>, number: usize) -> Vec<u32> {
+    pub fn words_of(&mut self, row: &Row<'_>, number: usize) -> Vec<u32>
+        ensures { Reads (field_words row.now number) result.items self.old self.new }
+    {
         match row.words(self.alloc, number) {
             Ok(words) => words,
             Err(stop) => {

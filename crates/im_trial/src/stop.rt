@@ -1,3 +1,6 @@
+ghost use Rattle.std.specs.Prelude.{◌≡◌};
+ghost use Rattle.im_trial.specs.declared.stop.Stop.TheVariants.{Files, Memory};
+
 use im_num::NoMemory;
 use std::alloc::{AllocError, AllocFailed};
 use std::io;
@@ -14,24 +17,32 @@ pub enum Stop {
 }
 
 impl From<AllocError> for Stop {
+    ghost from_gives = { λ _ e. e ≡ Memory };
+
     fn from(_fault: AllocError) -> Stop {
         Stop::Memory
     }
 }
 
 impl<T: Drop> From<AllocFailed<T>> for Stop {
+    ghost from_gives = { λ _ e. e ≡ Memory };
+
     fn from(_fault: AllocFailed<T>) -> Stop {
         Stop::Memory
     }
 }
 
 impl From<NoMemory> for Stop {
+    ghost from_gives = { λ _ e. e ≡ Memory };
+
     fn from(_fault: NoMemory) -> Stop {
         Stop::Memory
     }
 }
 
 impl From<io::Error> for Stop {
+    ghost from_gives = { λ _ e. e ≡ Files };
+
     fn from(_fault: io::Error) -> Stop {
         Stop::Files
     }

@@ -1,9 +1,14 @@
+ghost use Rattle.std.specs.Prelude.{◌≡◌, [], ◌∷◌, ◌++◌, MatchResult, OnOk, Some};
+ghost use Rattle.im_trial.specs.Finding.{Refuses};
+ghost use Rattle.im_trial.specs.Texts.{text_named, written_in};
+
 use crate::escapes::unescaped;
 use crate::fields::small_of;
 use crate::row::Row;
 use crate::stop::Stop;
 use std::alloc::Global;
 use std::fs;
+use std::marker::Model;
 
 /// A text that rows speak of by its name.
 #[derive(Drop)]
@@ -18,16 +23,30 @@ pub struct Texts {
     all: Vec<Text>,
 }
 
+impl Model for Texts {
+    ghost use Rattle.std.specs.Prelude.{List};
+    ghost use Rattle.im_trial.specs.Texts.{Named, all_named};
+
+    ghost Value = { List Named };
+
+    ghost view = { λ texts. all_named texts.all.items };
+}
+
 impl Texts {
     /// None yet.
-    pub fn new(alloc: Global) -> Texts {
+    pub fn new(alloc: Global) -> Texts
+        ensures { result ≡ [] }
+    {
         Texts {
             all: Vec::new(alloc),
         }
     }
 
     /// The text of that name.
-    pub fn find(&self, name: &str) -> Result<&[u8], Stop> {
+    pub fn find(&self, name: &str) -> Result<&[u8], Stop>
+        ensures { let found = text_named name.now self.now in
+            MatchResult result (λ bytes. found ≡ Some bytes.now) (Refuses found) }
+    {
         for text in &self.all {
             if text.name.as_str() == name {
                 return Ok(text.bytes.as_slice());
@@ -37,7 +56,10 @@ impl Texts {
     }
 
     /// What is written in a word: the text of that name for `@NAME`, and else its bytes, without escapes.
-    pub fn written(&self, alloc: Global, word: &str) -> Result<Vec<u8>, Stop> {
+    pub fn written(&self, alloc: Global, word: &str) -> Result<Vec<u8>, Stop>
+        ensures { let found = written_in self.now word.now in
+            MatchResult result (λ bytes. found ≡ Some bytes.items) (Refuses found) }
+    {
         match word.strip_prefix('@') {
             Some(name) => Ok(Vec::from_slice(alloc, self.find(name)?)?),
             None => unescaped(alloc, word),

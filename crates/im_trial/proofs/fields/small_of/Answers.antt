@@ -1,0 +1,11 @@
+use Rattle.std.proofs.Common.{sym, ap}
+use Rattle.std.specs.Option.{ok_or}
+use Rattle.im_trial.specs.declared.stop.Stop.TheVariants.{Row}
+use Rattle.im_trial.proofs.Numbers.{word_read}
+use Rattle.im_trial.proofs.fields.small_of.Goals as goal
+
+pub returns-in-Ok : goal.returns-in-Ok
+returns-in-Ok c = sym (ap (λ o. ok_or o Row) (rw c.in-Ok.is at (word_read 10 c.args.text.now c.parse.result c.parse.ensures.value.0)))
+
+pub returns-in-Err : goal.returns-in-Err
+returns-in-Err c = sym (ap (λ o. ok_or o Row) (rw c.in-Err.is at (word_read 10 c.args.text.now c.parse.result c.parse.ensures.value.0)))
