@@ -11,7 +11,7 @@ use itoa::Buffer;
 #[derive(Clone, Copy, PartialEq, Eq, Debug)]
 pub enum Evaluated {
     /// `main` returned this status.
-    Returned(i64),
+    Returned(i128),
     /// A function was called whose frame has no room on the stack.
     StackExhausted,
     /// What the source does on this input is undefined.

@@ -45,6 +45,7 @@ fn send_cell<S: Sink>(sink: &mut S, objects: &[Object], cell: CellValue) -> Resu
         CellValue::Null => send(sink, b" null"),
         CellValue::Inside { object, offset } => send_place(sink, name_at(objects, object), offset),
         CellValue::Local => send(sink, b" local"),
+        CellValue::NoValue => send(sink, b" unset"),
     }
 }
 
