@@ -1,10 +1,8 @@
 -- Calls: of functions and of the built-in ones.
 use Rattle.std.proofs.Common.{◌≡◌, ◌≢◌, ℕ, zero, suc, ◌+◌, ◌-◌, ◌<◌, ◌≤◌, inl, inr, Bool, true, false, cond, List, [], ◌∷◌, ◌++◌, Option, Some, None, sym, ap, ◌∙◌, subst, refl, arith}
-use Rattle.std.specs.Prelude.{◌*◌, length, ◌==◌, ◌&&◌, not, nat_lt, nat_le, pos, negsuc, nat_abs, slice_get}
+use Rattle.std.specs.Prelude.{◌*◌, length, ◌==◌, ◌&&◌, not, nat_lt, nat_le, pos, slice_get}
 use Rattle.std.proofs.lemmas.Bool.Decides.{nat_tests}
-use Rattle.im_num.specs.declared.kind.Kind.TheVariants.{U8}
 use Rattle.im_num.specs.declared.values.Cause.TheVariants.{Return as ReturnCut}
-use Rattle.im_num.specs.Kinds.{wrap}
 use Rattle.im_ctype.specs.declared.cell.Cell.{Cell}
 use Rattle.im_store.specs.Objects.{Name, Named, Slot, Link, Object, static, Value, Number, Unset, Shape, Store}
 use Rattle.im_store.specs.Statics.{StaticObject}
@@ -20,9 +18,10 @@ use Rattle.im_block.specs.declared.unit.Unit.{Unit as Code}
 use Rattle.im_block.specs.Wellformed.{Takes}
 use Rattle.im_block.specs.Meaning.{Setting, Active, Spot, Event, Tests, Saves, Serves, Cuts, Frame, State, Next, Goes, Stops, on_checked, takes, found, slot_shape, shapes_of, number_of, statics_of, ended, begun_by, passed, kept, kept_by, with_register, at_block, activates, next_active, enters, waiting, served, serves, does, step}
 use Rattle.im_block.specs.Runs.{goes_on, exec, uncut}
+use Rattle.im_block.proofs.Unitwise.{zip_new, from_new}
 use Rattle.im_alloc_relation.specs.Homes.{Home, InRegister, InSlot, numbers_kept, into, give, bring, put_line, past_cut, needed, put_lines, exit_lines, put_exit}
 use Rattle.im_alloc_relation.specs.Live.{lives}
-use Rattle.im_alloc_relation.specs.Placing.{Survives, ValidLine, Valid, PlacedBlock, PlacedBlocks, PlacedFunction, PlacedFunctions, IsPlaced}
+use Rattle.im_alloc_relation.specs.Placing.{Survives, ValidLine, Valid, PlacedBlock, number_behind, PlacedFunction, IsPlaced}
 use Rattle.im_alloc_relation.proofs.Seen.{Refines, refines_at, number_refines, is_slot}
 use Rattle.im_alloc_relation.proofs.Walks.{plus, heard, walk_one, walk_join, twin, own_slot, at_home, AllThere, WaitsFor, Callers, Held, truth, same_register, Loaded, into_home}
 use Rattle.im_alloc_relation.proofs.Results.{callers_kept, without, is_without, Saved, give_home, Brought, bring_all}
@@ -47,20 +46,6 @@ next_at u v next a b e r = subst (λ z. NextRel u v next z) (sym e) r
 pub takes_both : (u v : Code) (fuel : ℕ) (output : List ℕ) (go go' : ℕ → Next) → ((less : ℕ) → NextRel u v (go less) (go' less)) → NextRel u v (takes fuel output go) (takes fuel output go')
 takes_both u v zero output go go' h = ([], refl, refl)
 takes_both u v (suc less) output go go' h = h less
-
-pub placed_function : (fs gs : List Function) (i : ℕ) (f : Function) → PlacedFunctions fs gs → slice_get fs i ≡ Some f → (g : Function) × (slice_get gs i ≡ Some g) × PlacedFunction f g
-placed_function [] [] i f p e = absurd cc
-placed_function [] (g ∷ gs) i f p e = absurd p
-placed_function (x ∷ fs) [] i f p e = absurd p
-placed_function (x ∷ fs) (g ∷ gs) zero f p e = (g, refl, let k : x ≡ f = cc in subst (λ z. PlacedFunction z g) k p.0)
-placed_function (x ∷ fs) (g ∷ gs) (suc i) f p e = placed_function fs gs i f p.1 e
-
-pub placed_block : (h : ℕ → Home) (n : ℕ) (bs cs : List Block) (b : ℕ) (block : Block) → PlacedBlocks h n bs cs → slice_get bs b ≡ Some block → (m : ℕ) × (new : Block) × (slice_get cs b ≡ Some new) × PlacedBlock h m block new
-placed_block h n [] [] b block p e = absurd cc
-placed_block h n [] (y ∷ ys) b block p e = absurd p
-placed_block h n (x ∷ xs) [] b block p e = absurd p
-placed_block h n (x ∷ xs) (y ∷ ys) zero block p e = (n, y, refl, let k : x ≡ block = cc in subst (λ z. PlacedBlock h n z y) k p.0)
-placed_block h n (x ∷ xs) (y ∷ ys) (suc b) block p e = placed_block h (n + numbers_kept * suc (length (needed x.exit x.lines.items))) xs ys b block p.1 e
 
 -- what the statics show
 cells_same : (cells : List Cell) (a b : ℕ → Value) → ((i : ℕ) → b i ≡ a i) → cells_shown b cells ≡ cells_shown a cells
@@ -206,7 +191,7 @@ entered : (u v : Code) → BlocksThere u → (s : State) (i fuel first first' co
 entered u v there s i fuel first first' count active registers y y0 z lines exit ws xs xs0 st f g pf is_f is_g number many brought out None at = tt
 entered u v there s i fuel first first' count active registers y y0 z lines exit ws xs xs0 st f g pf is_f is_g number many brought out (Some block) at =
     let h : ℕ → Home = pf.home in
-    let p = placed_block h pf.first_access f.blocks.items g.blocks.items f.entry block pf.blocks at in
+    let p = from_new number_behind (PlacedBlock h) pf.first_access f.blocks.items g.blocks.items f.entry block pf.blocks at in
     let new : Block = p.1 in
     let pb : PlacedBlock h p.0 block new = p.3 in
     let entry : g.entry ≡ f.entry = ap (λ (q : Function). q.entry) pf.rest in
@@ -261,7 +246,7 @@ enters_both u v there pl g s i first first' count fuel registers y y0 z lines ex
     by : (o : Option Function) → slice_get u.functions.items i ≡ o → Takes o count → NextRel u v (on_checked (found o) (λ f. cond (nat_le active.depth g.stack) (on_checked (found (slice_get f.blocks.items f.entry)) (λ block. activates i f active (passed f.first_parameter first count registers) ws fuel block s)) (Stops (ended u 1 (pos 0) s) (Tests ∷ [])))) (enters v g i first' count y xs fuel w)
     by None e many = absurd many
     by (Some f) e many =
-        let q = placed_function u.functions.items v.functions.items i f pl.functions e in
+        let q = zip_new PlacedFunction u.functions.items v.functions.items i f pl.functions e in
         let f' : Function = q.0 in
         let pf : PlacedFunction f f' = q.2 in
         next_at u v _ _ _ (ap (λ z. on_checked (found z) (λ f. cond (nat_le active.depth g.stack) (on_checked (found (slice_get f.blocks.items f.entry)) (λ block. activates i f active (passed f.first_parameter first' count y) xs fuel block w)) (Stops (ended v 1 (pos 0) w) (Tests ∷ [])))) q.1)

@@ -21,15 +21,16 @@ use Rattle.im_block.specs.declared.unit.Unit.{Unit as Code}
 use Rattle.im_block.specs.Wellformed.{LineThere, IsBlock, IsFunction, IsWellFormed}
 use Rattle.im_block.specs.Meaning.{Setting, Spot, Event, Restores, Cuts, Frame, State, Next, Goes, Stops, on_checked, found, number_of, condition, statics_of, ended, with_register, at_block, enters, goes_to, back, leaves, step_at, step}
 use Rattle.im_block.specs.Runs.{before, start, Over, goes_on, exec, uncut}
+use Rattle.im_block.proofs.Unitwise.{from_new}
 use Rattle.im_alloc_relation.specs.Homes.{Home, numbers_kept, load, reg, into, give, past_cut, needed, put_lines, exit_lines, put_exit}
 use Rattle.im_alloc_relation.specs.Live.{lives, exit_lives}
-use Rattle.im_alloc_relation.specs.Placing.{ValidLine, Valid, IsPlaced, PlaceKeeps}
+use Rattle.im_alloc_relation.specs.Placing.{ValidLine, Valid, PlacedBlock, number_behind, IsPlaced, PlaceKeeps}
 use Rattle.im_alloc_relation.proofs.Seen.{Refines, refines_at, number_refines, condition_refines, is_slot}
 use Rattle.im_alloc_relation.proofs.Walks.{plus, heard, uncut_append, heard_append, walk_none, walk_one, walk_join, twin, own_slot, at_home, AllThere, WaitsFor, Callers, Held, same_register, seen_all, Loaded, load_home, into_home}
 use Rattle.im_alloc_relation.proofs.Results.{callers_kept, without, Saved, give_home}
 use Rattle.im_alloc_relation.proofs.Lines.{IsLeft, Twin, Went, Ended, After, after_first, checked_after, held_less, Known, or_left, self}
 use Rattle.im_alloc_relation.proofs.Straight.{line_after}
-use Rattle.im_alloc_relation.proofs.Calls.{NextRel, next_after, next_at, takes_both, placed_block, same_statics, shows, Outer, BlocksThere, placed_spot, spot_is, enters_both, split_without, call_after, get_after, put_after}
+use Rattle.im_alloc_relation.proofs.Calls.{NextRel, next_after, next_at, takes_both, same_statics, shows, Outer, BlocksThere, placed_spot, spot_is, enters_both, split_without, call_after, get_after, put_after}
 
 or_second : (a b c : Bool) → b ≡ true → ((a || b) || c) ≡ true
 or_second true b c t = refl
@@ -53,7 +54,7 @@ to_both u v there g s k b fuel after lines exit y z xs st le m =
     by : (o : Option Block) → slice_get k.f.blocks.items b ≡ o → NextRel u v (on_checked (found o) (λ block. Goes (record s { frame = record s.frame { spot = at_block b block }; fuel = fuel }) [])) (on_checked (found (slice_get k.g.blocks.items b)) (λ block. Goes (record (twin s lines exit y z xs st) { frame = record (twin s lines exit y z xs st).frame { spot = at_block b block }; fuel = fuel }) []))
     by None e = tt
     by (Some block) e =
-        let p = placed_block k.pf.home k.pf.first_access k.f.blocks.items k.g.blocks.items b block k.pf.blocks e in
+        let p = from_new number_behind (PlacedBlock k.pf.home) k.pf.first_access k.f.blocks.items k.g.blocks.items b block k.pf.blocks e in
         let t : State = twin s lines exit y z xs st in
         let less : Held u v s k.pf.home (lives k.pf.live block.lines.items block.exit) y xs st = held_less u v s k.pf.home after (lives k.pf.live block.lines.items block.exit) y xs st (λ q l. le q (k.pf.closed b block q e l)) m in (
           record t { frame = record t.frame { spot = placed_spot k.pf.home p.0 b block }; fuel = fuel },

@@ -1,5 +1,6 @@
 -- When homes are valid, what placed code is, and what it does.
 use Rattle.std.specs.Prelude.{◌≡◌, ◌≢◌, ◌<◌, ◌≤◌, ◌⊎◌, ℕ, suc, ◌+◌, ◌*◌, Bool, true, List, [], ◌∷◌, Option, Some, None, length, slice_get}
+use Rattle.std.specs.List.{AllZip}
 use Rattle.im_store.specs.Outcomes.{Outcome, IsDefined}
 use Rattle.im_block.specs.declared.code.Line.{Line}
 use Rattle.im_block.specs.declared.code.Line.TheVariants.{Put, PutNull, Copy, Convert, Unary, Not, Compute, Compare, Move, Distance, Address, Read, Write, Reload, Spill, Cut, Call, Serve}
@@ -11,6 +12,7 @@ use Rattle.im_block.specs.declared.unit.Unit.{Unit as Code}
 use Rattle.im_block.specs.Meaning.{Setting, Event, Reads, Writes, Tests, Saves, Restores, Serves, Cuts}
 use Rattle.im_block.specs.Runs.{Runs, uncut}
 use Rattle.im_block.specs.Wellformed.{IsWellFormed}
+use Rattle.im_block.specs.Unitwise.{EachFunction, AllZipFrom}
 use Rattle.im_alloc_relation.specs.Homes.{Home, InRegister, InSlot, numbers_kept, needed, put_lines, exit_lines, put_exit}
 use Rattle.im_alloc_relation.specs.Live.{lives}
 
@@ -51,16 +53,17 @@ abbrev pub Valid : (ℕ → Home) → (ℕ → ℕ → Bool) → List Line → E
 Valid h live [] exit = Unit {0}
 Valid h live (line ∷ rest) exit = ValidLine h line (lives live rest exit) × Valid h live rest exit
 
--- blocks one by one, with numbers from n on
+-- a block whose accesses to slots have numbers from n on
 pub record PlacedBlock (h : ℕ → Home) (n : ℕ) (old new : Block) : Type 0 where
   pub lines : new.lines.items ≡ put_lines h n (needed old.exit old.lines.items) (exit_lines h (n + numbers_kept * length (needed old.exit old.lines.items)) old.exit)
   pub exit : new.exit ≡ put_exit h old.exit
 
+-- block by block, each with the numbers behind those of the one before
+abbrev pub number_behind : Block → ℕ → ℕ
+number_behind block n = n + numbers_kept * suc (length (needed block.exit block.lines.items))
+
 abbrev pub PlacedBlocks : (ℕ → Home) → ℕ → List Block → List Block → Type 0
-PlacedBlocks h n [] [] = Unit {0}
-PlacedBlocks h n (x ∷ xs) (y ∷ ys) = PlacedBlock h n x y × PlacedBlocks h (n + numbers_kept * suc (length (needed x.exit x.lines.items))) xs ys
-PlacedBlocks h n [] (y ∷ ys) = ⊥
-PlacedBlocks h n (x ∷ xs) [] = ⊥
+PlacedBlocks h n old new = AllZipFrom number_behind (PlacedBlock h) n old new
 
 -- homes of a function's registers, and what lives at the start of each of its blocks: of virtual registers and, where their
 -- homes are registers, of these. At the entry only parameters live in registers
@@ -82,14 +85,10 @@ pub record PlacedFunction (old new : Function) : Type 0 where
   pub entered : (v r : ℕ) → live old.entry v ≡ true → home v ≡ InRegister r → (10 ≤ r) × (r < 10 + old.parameters)
 
 abbrev pub PlacedFunctions : List Function → List Function → Type 0
-PlacedFunctions [] [] = Unit {0}
-PlacedFunctions (f ∷ fs) (g ∷ gs) = PlacedFunction f g × PlacedFunctions fs gs
-PlacedFunctions [] (g ∷ gs) = ⊥
-PlacedFunctions (f ∷ fs) [] = ⊥
+PlacedFunctions old new = AllZip PlacedFunction old new
 
-pub record IsPlaced (u v : Code) : Type 0 where
-  pub functions : PlacedFunctions u.functions.items v.functions.items
-  pub rest : v ≡ record u { functions = v.functions }
+abbrev pub IsPlaced : Code → Code → Type 0
+IsPlaced old new = EachFunction PlacedFunction old new
 
 -- events but for those on slots
 abbrev pub beside : Option ℕ → Event → List Event → List Event

@@ -1,4 +1,5 @@
 pub mod Words
+pub mod Unitwise
 pub mod Cost
 pub mod Twins
 pub mod Bytes

@@ -16,6 +16,7 @@ use Rattle.im_block.specs.Meaning.{Setting, Site, Event, Reads, Writes, Tests, S
 use Rattle.im_block.specs.Runs.{start, before, Over, goes_on, exec, uncut}
 use Rattle.im_block.specs.Shape.{IsOrdered, AllOrdered, Descends}
 use Rattle.im_block.specs.Uncut.{WithCuts, Empty, Same, Added, SameBlock, SameBlocks, SameFunction, SameFunctions, SameButCuts, KeptButCuts}
+use Rattle.im_block.proofs.Unitwise.{Both, zip_at, zip_old}
 
 -- a waiting activation whose lines have further cuts
 record TwinFrame (x y : Frame) : Type 0 where
@@ -60,45 +61,13 @@ either_twin true x y x' y' p q = p
 either_twin false x y x' y' p q = q
 
 -- what stands at one place
-abbrev BothBlocks : Option Block → Option Block → Type 0
-BothBlocks None None = Unit {0}
-BothBlocks (Some x) (Some y) = SameBlock x y
-BothBlocks None (Some y) = ⊥
-BothBlocks (Some x) None = ⊥
+both_twin : {X : Type 0} (R : X → X → Type 0) (x y : Option X) (f h : X → Next) → Both R x y → ((old new : X) → R old new → NextTwin (f old) (h new)) → NextTwin (on_checked (found x) f) (on_checked (found y) h)
+both_twin R None None f h b p = (refl, refl)
+both_twin R None (Some y) f h b p = absurd b
+both_twin R (Some x) None f h b p = absurd b
+both_twin R (Some x) (Some y) f h b p = p x y b
 
-both_blocks : (xs ys : List Block) (i : ℕ) → SameBlocks xs ys → BothBlocks (slice_get xs i) (slice_get ys i)
-both_blocks [] [] i h = tt
-both_blocks [] (y ∷ ys) i h = absurd h
-both_blocks (x ∷ xs) [] i h = absurd h
-both_blocks (x ∷ xs) (y ∷ ys) zero h = h.0
-both_blocks (x ∷ xs) (y ∷ ys) (suc i) h = both_blocks xs ys i h.1
-
-abbrev BothFunctions : Option Function → Option Function → Type 0
-BothFunctions None None = Unit {0}
-BothFunctions (Some f) (Some h) = SameFunction f h
-BothFunctions None (Some h) = ⊥
-BothFunctions (Some f) None = ⊥
-
-both_functions : (fs hs : List Function) (i : ℕ) → SameFunctions fs hs → BothFunctions (slice_get fs i) (slice_get hs i)
-both_functions [] [] i h = tt
-both_functions [] (y ∷ ys) i h = absurd h
-both_functions (x ∷ xs) [] i h = absurd h
-both_functions (x ∷ xs) (y ∷ ys) zero h = h.0
-both_functions (x ∷ xs) (y ∷ ys) (suc i) h = both_functions xs ys i h.1
-
-block_twin : (x y : Option Block) (f h : Block → Next) → BothBlocks x y → ((block other : Block) → SameBlock block other → NextTwin (f block) (h other)) → NextTwin (on_checked (found x) f) (on_checked (found y) h)
-block_twin None None f h b p = (refl, refl)
-block_twin None (Some y) f h b p = absurd b
-block_twin (Some x) None f h b p = absurd b
-block_twin (Some x) (Some y) f h b p = p x y b
-
-function_twin : (x y : Option Function) (f h : Function → Next) → BothFunctions x y → ((old new : Function) → SameFunction old new → NextTwin (f old) (h new)) → NextTwin (on_checked (found x) f) (on_checked (found y) h)
-function_twin None None f h b p = (refl, refl)
-function_twin None (Some y) f h b p = absurd b
-function_twin (Some x) None f h b p = absurd b
-function_twin (Some x) (Some y) f h b p = p x y b
-
-kept_twin : (x y : Option Function) (registers : ℕ → Value) → BothFunctions x y → kept_by y registers ≡ kept_by x registers
+kept_twin : (x y : Option Function) (registers : ℕ → Value) → Both SameFunction x y → kept_by y registers ≡ kept_by x registers
 kept_twin None None registers b = refl
 kept_twin None (Some y) registers b = absurd b
 kept_twin (Some x) None registers b = absurd b
@@ -124,14 +93,14 @@ module _ (u w : Code) (g : Setting) (all : SameFunctions u.functions.items w.fun
   abbrev v : Code
   v = record u { functions = w.functions }
 
-  both_at : (i : ℕ) → BothFunctions (slice_get u.functions.items i) (slice_get w.functions.items i)
-  both_at i = both_functions u.functions.items w.functions.items i all
+  both_at : (i : ℕ) → Both SameFunction (slice_get u.functions.items i) (slice_get w.functions.items i)
+  both_at i = zip_at SameFunction u.functions.items w.functions.items i all
 
   -- to a block
   to_twin : (s : State) (b fuel : ℕ) (before : List Line) (callers : List Frame) → SameCallers s.callers callers → NextTwin (goes_to u g b fuel s) (goes_to v g b fuel (twin s before callers))
   to_twin s b fuel before callers waiting =
-      function_twin (slice_get u.functions.items s.frame.function) (slice_get w.functions.items s.frame.function) _ _ (both_at s.frame.function) (λ old new same.
-      block_twin (slice_get old.blocks.items b) (slice_get new.blocks.items b) _ _ (both_blocks old.blocks.items new.blocks.items b same.blocks) (λ block other e. (
+      both_twin SameFunction (slice_get u.functions.items s.frame.function) (slice_get w.functions.items s.frame.function) _ _ (both_at s.frame.function) (λ old new same.
+      both_twin SameBlock (slice_get old.blocks.items b) (slice_get new.blocks.items b) _ _ (zip_at SameBlock old.blocks.items new.blocks.items b same.blocks) (λ block other e. (
         refl,
         record {
           rest = other.lines.items;
@@ -164,7 +133,7 @@ module _ (u w : Code) (g : Setting) (all : SameFunctions u.functions.items w.fun
   enters_twin : (s : State) (i first count fuel : ℕ) (registers registers' : ℕ → Value) (callers callers' : List Frame) (before : List Line) (waiting : List Frame) → registers' ≡ registers → SameCallers callers callers' → NextTwin (enters u g i first count registers callers fuel s) (enters v g i first count registers' callers' fuel (twin s before waiting))
   enters_twin s i first count fuel registers registers' callers callers' before waiting e same =
       subst (λ r. NextTwin (enters u g i first count registers callers fuel s) (enters v g i first count r callers' fuel (twin s before waiting))) (sym e)
-      (function_twin (slice_get u.functions.items i) (slice_get w.functions.items i) _ _ (both_at i) (λ old new like.
+      (both_twin SameFunction (slice_get u.functions.items i) (slice_get w.functions.items i) _ _ (both_at i) (λ old new like.
       subst
       (λ (f : Function).
       NextTwin
@@ -172,7 +141,7 @@ module _ (u w : Code) (g : Setting) (all : SameFunctions u.functions.items w.fun
       (if nat_le (next_active u g i s).depth g.stack then on_checked (found (slice_get f.blocks.items f.entry)) (λ block. activates i f (next_active u g i s) (passed f.first_parameter first count registers) callers' fuel block (twin s before waiting)) else Stops (ended u 1 (pos 0) s) (Tests ∷ [])))
       (sym like.rest)
       (either_twin (nat_le (next_active u g i s).depth g.stack) _ _ _ _
-      (block_twin (slice_get old.blocks.items old.entry) (slice_get new.blocks.items old.entry) _ _ (both_blocks old.blocks.items new.blocks.items old.entry like.blocks) (λ block other b.
+      (both_twin SameBlock (slice_get old.blocks.items old.entry) (slice_get new.blocks.items old.entry) _ _ (zip_at SameBlock old.blocks.items new.blocks.items old.entry like.blocks) (λ block other b.
       new_twin s i old (next_active u g i s) (passed old.first_parameter first count registers) callers callers' fuel block other before waiting same b))
       (refl, refl))))
 
@@ -322,24 +291,15 @@ pub kept : (old new : Code) → SameButCuts old new → KeptButCuts old new
 kept old new same = subst (λ v. KeptButCuts old v) (sym same.rest) (kept_with old new same.functions)
 
 blocks_ordered : (xs ys : List Block) → SameBlocks xs ys → IsOrdered xs → IsOrdered ys
-blocks_ordered xs ys h ordered = record { each = λ b block at. one b block (slice_get xs b) (slice_get ys b) (both_blocks xs ys b h) refl at }
-  where
-    one : (b : ℕ) (block : Block) (p q : Option Block) → BothBlocks p q → p ≡ slice_get xs b → q ≡ Some block → Descends block.exit b
-    one b block None None both at at' = cc
-    one b block None (Some y) both at at' = absurd both
-    one b block (Some x) None both at at' = absurd both
-    one b block (Some x) (Some y) both at at' =
-        let same : y ≡ block = cc in
-        let exit : x.exit ≡ block.exit = sym both.exit ∙ ap (λ (z : Block). z.exit) same in
-        subst (λ e. Descends e b) exit (ordered.each b x (sym at))
+blocks_ordered xs ys h ordered = record {
+  each = λ b block at.
+      let o = zip_old SameBlock xs ys b block h at in
+      subst (λ e. Descends e b) (sym o.is.exit) (ordered.each b o.old o.at);
+}
 
 pub ordered_kept : (old new : Code) → SameButCuts old new → AllOrdered old → AllOrdered new
-ordered_kept old new all ordered = record { each = λ i h at. one i h (slice_get old.functions.items i) (slice_get new.functions.items i) (both_functions old.functions.items new.functions.items i all.functions) refl at }
-  where
-    one : (i : ℕ) (h : Function) (p q : Option Function) → BothFunctions p q → p ≡ slice_get old.functions.items i → q ≡ Some h → IsOrdered h.blocks.items
-    one i h None None both at at' = cc
-    one i h None (Some q) both at at' = absurd both
-    one i h (Some f) None both at at' = absurd both
-    one i h (Some f) (Some q) both at at' =
-        let same : q ≡ h = cc in
-        subst (λ (x : Function). IsOrdered x.blocks.items) same (blocks_ordered f.blocks.items q.blocks.items both.blocks (ordered.each i f (sym at)))
+ordered_kept old new all ordered = record {
+  each = λ i g at.
+      let o = zip_old SameFunction old.functions.items new.functions.items i g all.functions at in
+      blocks_ordered o.old.blocks.items g.blocks.items o.is.blocks (ordered.each i o.old o.at);
+}

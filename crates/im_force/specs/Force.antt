@@ -1,5 +1,6 @@
 -- Block code with its forced cuts: at the entry of each function, behind each call, on each loop edge; nowhere else.
-use Rattle.std.specs.Prelude.{◌≡◌, ℕ, ◌==◌, if◌then◌else◌, List, [], ◌∷◌, ◌++◌, Option, Some, None, suc}
+use Rattle.std.specs.Prelude.{◌≡◌, ℕ, ◌==◌, if◌then◌else◌, List, [], ◌∷◌, ◌++◌, Option, Some, None}
+use Rattle.std.specs.List.{AllZip}
 use Rattle.im_num.specs.declared.values.Cause.{Cause}
 use Rattle.im_num.specs.declared.values.Cause.TheVariants.{Entry, Return as Back, Loop}
 use Rattle.im_block.specs.declared.code.Line.{Line}
@@ -9,6 +10,7 @@ use Rattle.im_block.specs.declared.code.Exit.TheVariants.{Jump, Turn, Branch, Re
 use Rattle.im_block.specs.declared.code.Block.{Block}
 use Rattle.im_block.specs.declared.unit.Function.{Function}
 use Rattle.im_block.specs.declared.unit.Unit.{Unit as Code}
+use Rattle.im_block.specs.Unitwise.{EachFunction, AllZipFrom, place_behind}
 
 -- why a cut stands behind a line, and before a block's exit
 abbrev pub due_behind : Line → Option Cause
@@ -39,23 +41,19 @@ pub record ForcesBlock (due : Option Cause) (old new : Block) : Type 0 where
 abbrev pub due_first : ℕ → ℕ → Option Cause
 due_first entry b = if b == entry then Some Entry else None
 
--- block by block, the first one being the n-th
+-- the n-th block
+abbrev pub ForcesAt : ℕ → ℕ → Block → Block → Type 0
+ForcesAt entry n old new = ForcesBlock (due_first entry n) old new
+
 abbrev pub ForcesBlocks : ℕ → ℕ → List Block → List Block → Type 0
-ForcesBlocks entry n [] [] = Unit {0}
-ForcesBlocks entry n (x ∷ xs) (y ∷ ys) = ForcesBlock (due_first entry n) x y × ForcesBlocks entry (suc n) xs ys
-ForcesBlocks entry n [] (y ∷ ys) = ⊥
-ForcesBlocks entry n (x ∷ xs) [] = ⊥
+ForcesBlocks entry n old new = AllZipFrom place_behind (ForcesAt entry) n old new
 
 pub record ForcesFunction (old new : Function) : Type 0 where
   pub blocks : ForcesBlocks old.entry 0 old.blocks.items new.blocks.items
   pub rest : new ≡ record old { blocks = new.blocks }
 
 abbrev pub ForcesFunctions : List Function → List Function → Type 0
-ForcesFunctions [] [] = Unit {0}
-ForcesFunctions (f ∷ fs) (g ∷ gs) = ForcesFunction f g × ForcesFunctions fs gs
-ForcesFunctions [] (g ∷ gs) = ⊥
-ForcesFunctions (f ∷ fs) [] = ⊥
+ForcesFunctions old new = AllZip ForcesFunction old new
 
-pub record Forces (old new : Code) : Type 0 where
-  pub functions : ForcesFunctions old.functions.items new.functions.items
-  pub rest : new ≡ record old { functions = new.functions }
+abbrev pub Forces : Code → Code → Type 0
+Forces old new = EachFunction ForcesFunction old new

@@ -1,5 +1,6 @@
 -- Steps of functions, one after the other, as steps of a whole unit; so what holds of one step holds of all.
-use Rattle.std.proofs.Common.{◌≡◌, suc, ◌≤◌, List, [], ◌∷◌, length, refl, sym, ap, ◌∙◌, subst, arith}
+use Rattle.std.proofs.Common.{◌≡◌, ◌≤◌, List, [], ◌∷◌, length, refl, sym, ap, ◌∙◌, subst, arith}
+use Rattle.std.specs.List.{AllZip}
 use Rattle.std.specs.Vec.{with_items}
 use Rattle.std.proofs.lemmas.List.{with_items_is}
 use Rattle.im_block.specs.declared.unit.Registers.TheVariants.{Virtual}
@@ -8,12 +9,13 @@ use Rattle.im_block.specs.declared.unit.Unit.{Unit as Code}
 use Rattle.im_block.specs.Runs.{Runs}
 use Rattle.im_block.specs.Shape.{AllOrdered, function_cost}
 use Rattle.im_block.specs.Wellformed.{IsWellFormed}
+use Rattle.im_block.specs.Unitwise.{EachFunction}
+use Rattle.im_block.proofs.Unitwise.{zip_length}
 use Rattle.im_alloc_placed.specs.Apart.{AllUncut}
 use Rattle.im_alloc_placed.specs.Placeable.{IsPlaceable}
 use Rattle.im_alloc_relation.specs.Reads.{WritesFirst}
 use Rattle.im_forward.specs.Forward.{ForwardsOnce, ForwardsFunction, Once, Then, ForwardsFunctions, Forwards}
 use Rattle.im_forward.specs.Laws.{ForwardLaw, OrderedLaw, FormedLaw, UncutLaw, PlaceableLaw}
-use Rattle.im_forward.proofs.Once.{OnceFunctions, OnceUnit}
 use Rattle.im_forward.proofs.Sims.{whole}
 use Rattle.im_forward.proofs.Shapes.{costs_once, ordered_kept, uncut_kept, formed}
 use Rattle.im_forward.proofs.Placeables.{unit_placeable}
@@ -52,17 +54,17 @@ need_kept f g (Then x y z p h) = need_kept y z h ∙ ap (λ (k : Function). k.ne
 -- ---- functions side by side
 
 data Chain : List Function → List Function → Type 0 where
-  Last : (fs gs : List Function) → OnceFunctions fs gs → Chain fs gs
-  Go : (fs gs hs : List Function) → OnceFunctions fs gs → Chain gs hs → Chain fs hs
+  Last : (fs gs : List Function) → AllZip ForwardsOnce fs gs → Chain fs gs
+  Go : (fs gs hs : List Function) → AllZip ForwardsOnce fs gs → Chain gs hs → Chain fs hs
 
-all_same : (fs gs : List Function) → ForwardsFunctions fs gs → OnceFunctions fs fs
+all_same : (fs gs : List Function) → ForwardsFunctions fs gs → AllZip ForwardsOnce fs fs
 all_same [] [] h = tt
 all_same [] (g ∷ gs) h = absurd h
 all_same (f ∷ fs) [] h = absurd h
 all_same (f ∷ fs) (g ∷ gs) h = (once_same f (virtual_first f g h.0), all_same fs gs h.1)
 
 -- the first function alone, then the others
-first_steps : (f g : Function) (fs hs : List Function) → ForwardsFunction f g → OnceFunctions fs fs → Chain (g ∷ fs) hs → Chain (f ∷ fs) hs
+first_steps : (f g : Function) (fs hs : List Function) → ForwardsFunction f g → AllZip ForwardsOnce fs fs → Chain (g ∷ fs) hs → Chain (f ∷ fs) hs
 first_steps f g fs hs (Once x y p) all on = Go (x ∷ fs) (y ∷ fs) hs (p, all) on
 first_steps f g fs hs (Then x y z p h) all on = Go (x ∷ fs) (y ∷ fs) hs (p, all) (first_steps y z fs hs h all on)
 
@@ -77,23 +79,17 @@ chain (f ∷ fs) [] h = absurd h
 chain (f ∷ fs) (g ∷ gs) h =
     first_steps f g fs (g ∷ gs) h.0 (all_same fs gs h.1) (other_steps g fs gs (once_same g (virtual_last f g h.0)) (chain fs gs h.1))
 
-once_length : (fs gs : List Function) → OnceFunctions fs gs → length gs ≡ length fs
-once_length [] [] h = refl
-once_length [] (g ∷ gs) h = absurd h
-once_length (f ∷ fs) [] h = absurd h
-once_length (f ∷ fs) (g ∷ gs) h = ap suc (once_length fs gs h.1)
-
 -- ---- units
 
-module _ (P : Code → Type 0) (keeps : (u w : Code) → OnceUnit u w → P u → P w) where
+module _ (P : Code → Type 0) (keeps : (u w : Code) → EachFunction ForwardsOnce u w → P u → P w) where
   all_steps : (fs gs : List Function) → Chain fs gs → (u w : Code) → u.functions.items ≡ fs → w.functions.items ≡ gs → w ≡ record u { functions = w.functions } → P u → P w
   all_steps fs gs (Last xs ys p) u w first last rest h =
-      keeps u w (record { functions = subst (λ z. OnceFunctions z w.functions.items) (sym first) (subst (OnceFunctions xs) (sym last) p); rest = rest }) h
+      keeps u w (record { functions = subst (λ z. AllZip ForwardsOnce z w.functions.items) (sym first) (subst (AllZip ForwardsOnce xs) (sym last) p); rest = rest }) h
   all_steps fs gs (Go xs ys zs p on) u w first last rest h =
-      let count : length ys ≡ u.functions.len = once_length xs ys p ∙ ap (λ (z : List Function). length z) (sym first) ∙ sym u.functions.ok.0 in
+      let count : length ys ≡ u.functions.len = zip_length ForwardsOnce xs ys p ∙ ap (λ (z : List Function). length z) (sym first) ∙ sym u.functions.ok.0 in
       let middle : Code = record u { functions = with_items u.functions ys } in
       let is : middle.functions.items ≡ ys = with_items_is u.functions ys count in
-      let step : OnceUnit u middle = record { functions = subst (λ z. OnceFunctions z middle.functions.items) (sym first) (subst (OnceFunctions xs) (sym is) p); rest = refl } in
+      let step : EachFunction ForwardsOnce u middle = record { functions = subst (λ z. AllZip ForwardsOnce z middle.functions.items) (sym first) (subst (AllZip ForwardsOnce xs) (sym is) p); rest = refl } in
       all_steps ys zs on middle w is last rest (keeps u middle step h)
 
   pub each_step : (u w : Code) → Forwards u w → P u → P w

@@ -1,5 +1,5 @@
 -- A function whose copies are forwarded, and left out where nothing uses them; and a unit of such functions.
-use Rattle.std.proofs.Common.{◌≡◌, ℕ, zero, suc, ◌+◌, ◌*◌, ◌/◌, ◌%◌, Bool, true, false, List, [], ◌∷◌, Option, Some, refl, sym, ap, ◌∙◌, subst, arith, length}
+use Rattle.std.proofs.Common.{◌≡◌, ℕ, suc, ◌+◌, ◌*◌, ◌/◌, ◌%◌, Bool, true, false, List, [], ◌∷◌, Option, Some, refl, sym, ap, ◌∙◌, subst, arith, length}
 use Rattle.std.specs.Prelude.{Vec, slice_get, slice_index, All}
 use Rattle.std.specs.declared.alloc.Global.{Global}
 use Rattle.std.specs.List.{AllZip}
@@ -9,44 +9,25 @@ use Rattle.im_block.specs.declared.code.Block.{Block}
 use Rattle.im_block.specs.declared.unit.Function.{Function}
 use Rattle.im_block.specs.declared.unit.Unit.{Unit as Code}
 use Rattle.im_block.specs.Wellformed.{LineWithin, ExitThere, IsBlock, IsFunction, IsWellFormed}
+use Rattle.im_block.proofs.Unitwise.{zip_old, zip_length, zip_each, zip_then}
 use Rattle.im_alloc_placed.specs.Placeable.{first_free, IsPlaceableFunction, IsPlaceable}
 use Rattle.im_alloc_relation.specs.Live.{lives}
 use Rattle.im_alloc_relation.specs.Reads.{lives_in, reads_first}
 use Rattle.im_block_live.specs.Reads.{IsLive}
 use Rattle.im_block_live.specs.Words.{has, group_has, groups_have, IsWithin, AreWithin}
 use Rattle.im_block_live.proofs.Paths.{lives_found}
-use Rattle.im_forward.specs.Forward.{ForwardsLines, ForwardsBlock, ForwardsBlocks, ForwardsOnce, ForwardsFunction, ForwardsFunctions, Forwards}
-use Rattle.im_forward.specs.Known.{UsesSources, AllUseSources, LeavesOutLines, LeavesOut, AreOf, LeaveOut, AllLeaveOut, IsReady}
-use Rattle.im_forward.proofs.Shapes.{leaving, exit_there, lines_within, blocks_length}
+use Rattle.im_forward.specs.Forward.{ForwardsLines, ForwardsBlock, ForwardsOnce}
+use Rattle.im_forward.specs.Known.{UsesSources, AllUseSources, LeavesOutLines, LeavesOut, AreOf, AllLeaveOut, IsReady}
+use Rattle.im_forward.proofs.Shapes.{leaving, exit_there, lines_within}
 use Rattle.im_forward.proofs.Straightening.{IsClosed}
 use Rattle.im_forward.proofs.Leaving.{lives_less, leaves_none, leaves_again, left_out}
 
 -- ---- blocks
 
-pub zip_uses : (free : ℕ) (xs ys : List Block) → AllZip (UsesSources free) xs ys → (live : ℕ → ℕ → Bool) → ForwardsBlocks free live xs ys
-zip_uses free [] [] h live = tt
-zip_uses free [] (y ∷ ys) h live = absurd h
-zip_uses free (x ∷ xs) [] h live = absurd h
-zip_uses free (x ∷ xs) (y ∷ ys) h live = (h.0 live, zip_uses free xs ys h.1 live)
-
-pub zip_leaves : (live : ℕ → ℕ → Bool) (xs ys : List Block) → AllZip (LeavesOut live) xs ys → LeaveOut live xs ys
-zip_leaves live [] [] h = tt
-zip_leaves live [] (y ∷ ys) h = absurd h
-zip_leaves live (x ∷ xs) [] h = absurd h
-zip_leaves live (x ∷ xs) (y ∷ ys) h = (h.0, zip_leaves live xs ys h.1)
-
 block_left : (free : ℕ) (live : ℕ → ℕ → Bool) (x y z : Block) → ForwardsBlock free live x y → LeavesOut live y z → ForwardsBlock free live x z
 block_left free live x y z h k = record {
   lines = subst (λ e. ForwardsLines free live x.exit e [] x.lines.items z.lines.items) (sym k.exit) (left_out free live x.exit y.exit [] x.lines.items y.lines.items h.lines z.lines.items k.lines);
 }
-
-blocks_left : (free : ℕ) (live : ℕ → ℕ → Bool) (xs ys zs : List Block) → ForwardsBlocks free live xs ys → LeaveOut live ys zs → ForwardsBlocks free live xs zs
-blocks_left free live [] [] [] h k = tt
-blocks_left free live [] [] (z ∷ zs) h k = absurd k
-blocks_left free live [] (y ∷ ys) zs h k = absurd h
-blocks_left free live (x ∷ xs) [] zs h k = absurd h
-blocks_left free live (x ∷ xs) (y ∷ ys) [] h k = absurd k
-blocks_left free live (x ∷ xs) (y ∷ ys) (z ∷ zs) h k = (block_left free live x y z h.0 k.0, blocks_left free live xs ys zs h.1 k.1)
 
 -- ---- one group after the other
 
@@ -77,24 +58,11 @@ lives_there blocks live is b block v at e =
 pub closed_first : (f : Function) (live : ℕ → ℕ → Bool) → IsLive f.blocks.items live → IsClosed live f.blocks.items
 closed_first f live is = lives_there f.blocks.items live is
 
-record LeftFrom (live : ℕ → ℕ → Bool) (ys : List Block) (b : ℕ) (z : Block) : Type 0 where
-  block : Block
-  at : slice_get ys b ≡ Some block
-  leaves : LeavesOut live block z
-
-left_from : (live : ℕ → ℕ → Bool) (ys zs : List Block) → LeaveOut live ys zs → (b : ℕ) (z : Block) → slice_get zs b ≡ Some z → LeftFrom live ys b z
-left_from live [] [] h b z e = cc
-left_from live [] (w ∷ zs) h b z e = absurd h
-left_from live (y ∷ ys) [] h b z e = absurd h
-left_from live (y ∷ ys) (w ∷ zs) h zero z e = (let same : w ≡ z = cc in record { block = y; at = refl; leaves = subst (LeavesOut live y) same h.0 })
-left_from live (y ∷ ys) (w ∷ zs) h (suc b) z e = (let k = left_from live ys zs h.1 b z e in record { block = k.block; at = k.at; leaves = k.leaves })
-
-closed_left : (live : ℕ → ℕ → Bool) (ys zs : List Block) → IsLive ys live → LeaveOut live ys zs → (b : ℕ) (z : Block) (v : ℕ) → slice_get zs b ≡ Some z → lives live z.lines.items z.exit v ≡ true → live b v ≡ true
+closed_left : (live : ℕ → ℕ → Bool) (ys zs : List Block) → IsLive ys live → AllZip (LeavesOut live) ys zs → IsClosed live zs
 closed_left live ys zs is h b z v at e =
-    let k = left_from live ys zs h b z at in
-    let y = k.block in
-    let same : lives live z.lines.items y.exit v ≡ true = subst (λ (x : Exit). lives live z.lines.items x v ≡ true) k.leaves.exit e in
-    lives_there ys live is b y v k.at (lives_less live y.exit y.lines.items z.lines.items k.leaves.lines v same)
+    let k = zip_old (LeavesOut live) ys zs b z h at in
+    let same : lives live z.lines.items k.old.exit v ≡ true = subst (λ (x : Exit). lives live z.lines.items x v ≡ true) k.is.exit e in
+    lives_there ys live is b k.old v k.at (lives_less live k.old.exit k.old.lines.items z.lines.items k.is.lines v same)
 
 -- ---- the registers and blocks that lines name are there
 
@@ -110,30 +78,21 @@ block_within n count free x y h w =
       there = subst (ExitThere count) (sym e.exit) (exit_there count e.instead x.exit w.there);
     }
 
-blocks_within : (n count free : ℕ) (xs ys : List Block) → ((live : ℕ → ℕ → Bool) → ForwardsBlocks free live xs ys) → All (IsWithin n count) xs → All (IsWithin n count) ys
-blocks_within n count free [] [] h w = All-nil (IsWithin n count)
-blocks_within n count free [] (y ∷ ys) h w = absurd (h (λ b v. false))
-blocks_within n count free (x ∷ xs) [] h w = absurd (h (λ b v. false))
-blocks_within n count free (x ∷ xs) (y ∷ ys) h w =
-    All-cons (IsWithin n count) y ys
-    (block_within n count free x y (λ live. (h live).0) (All-head (IsWithin n count) x xs w))
-    (blocks_within n count free xs ys (λ live. (h live).1) (All-tail (IsWithin n count) x xs w))
-
 pub within : (f g : Function) → AllUseSources f g → AreWithin f → AreWithin g
 within f g h w =
-    let same : length g.blocks.items ≡ length f.blocks.items = blocks_length (first_free f) (λ b v. false) f.blocks.items g.blocks.items (h.blocks (λ b v. false)) in
+    let same : length g.blocks.items ≡ length f.blocks.items = zip_length (UsesSources (first_free f)) f.blocks.items g.blocks.items h.blocks in
     let count : g.register_count ≡ f.register_count = ap (λ (z : Function). z.register_count) h.rest in
     subst (λ n. All (IsWithin n (length g.blocks.items)) g.blocks.items) (sym count)
     (subst (λ n. All (IsWithin f.register_count n) g.blocks.items) (sym same)
-    (blocks_within f.register_count (length f.blocks.items) (first_free f) f.blocks.items g.blocks.items h.blocks w))
+    (zip_each (UsesSources (first_free f)) (IsWithin f.register_count (length f.blocks.items)) (IsWithin f.register_count (length f.blocks.items)) (block_within f.register_count (length f.blocks.items) (first_free f)) f.blocks.items g.blocks.items h.blocks w))
 
 -- ---- the function
 
 pub forwards : (f g h : Function) (live : ℕ → ℕ → Bool) → IsReady f → AllUseSources f g → IsLive g.blocks.items live → AllLeaveOut live g h → ForwardsOnce f h
 forwards f g h live ready uses is leaves = record {
   live = live;
-  closed = λ b z v at e. closed_left live g.blocks.items h.blocks.items is leaves.blocks b z v at e;
-  blocks = blocks_left (first_free f) live f.blocks.items g.blocks.items h.blocks.items (uses.blocks live) leaves.blocks;
+  closed = closed_left live g.blocks.items h.blocks.items is leaves.blocks;
+  blocks = zip_then (UsesSources (first_free f)) (LeavesOut live) (ForwardsBlock (first_free f) live) (λ x y z u k. block_left (first_free f) live x y z (u live) k) f.blocks.items g.blocks.items h.blocks.items uses.blocks leaves.blocks;
   virtual = ready.virtual;
   rest = leaves.rest ∙ ap (λ (z : Function). record z { blocks = h.blocks }) uses.rest;
 }
@@ -162,20 +121,3 @@ all_ready functions statics (f ∷ fs) w k =
 
 pub unit_ready : (u : Code) → IsWellFormed u → IsPlaceable u → All IsReady u.functions.items
 unit_ready u w k = all_ready u.functions.items (length u.statics.items) u.functions.items w.functions k.functions
-
-pub zip_forwards : (fs gs : List Function) → AllZip ForwardsFunction fs gs → ForwardsFunctions fs gs
-zip_forwards [] [] h = tt
-zip_forwards [] (g ∷ gs) h = absurd h
-zip_forwards (f ∷ fs) [] h = absurd h
-zip_forwards (f ∷ fs) (g ∷ gs) h = (h.0, zip_forwards fs gs h.1)
-
-pub unit_forwards : (u v : Code) → v ≡ record u { functions = v.functions } → AllZip ForwardsFunction u.functions.items v.functions.items → Forwards u v
-unit_forwards u v rest h = record { functions = zip_forwards u.functions.items v.functions.items h; rest = rest }
-
--- ---- all blocks of a function
-
-pub all_uses : (f g : Function) → g ≡ record f { blocks = g.blocks } → AllZip (UsesSources (first_free f)) f.blocks.items g.blocks.items → AllUseSources f g
-all_uses f g rest h = record { blocks = zip_uses (first_free f) f.blocks.items g.blocks.items h; rest = rest }
-
-pub all_leaves : (live : ℕ → ℕ → Bool) (f g : Function) → g ≡ record f { blocks = g.blocks } → AllZip (LeavesOut live) f.blocks.items g.blocks.items → AllLeaveOut live f g
-all_leaves live f g rest h = record { blocks = zip_leaves live f.blocks.items g.blocks.items h; rest = rest }

@@ -1,10 +1,8 @@
 mod Same
 mod Setting
 mod Numbers
-mod Once
 mod Sims
 mod Shapes
-mod Lists
 mod Knowing
 mod Using
 mod Leaving

@@ -1,5 +1,5 @@
 -- Forwarded code is placeable: what comes in the place of a register is no parameter.
-use Rattle.std.proofs.Common.{◌≡◌, ◌⊎◌, inl, inr, ℕ, ◌≤◌, Bool, List, [], ◌∷◌, Option, Some, None, refl, sym, ap, ◌∙◌, subst, arith, length}
+use Rattle.std.proofs.Common.{◌≡◌, ◌⊎◌, inl, inr, ℕ, ◌≤◌, Bool, List, [], ◌∷◌, Some, None, sym, ap, ◌∙◌, subst, arith, length}
 use Rattle.std.specs.Prelude.{slice_get, All}
 use Rattle.std.proofs.lemmas.List.Elements.{All-nil, All-cons, All-head, All-tail}
 use Rattle.im_block.specs.declared.code.Place.{Place}
@@ -12,14 +12,14 @@ use Rattle.im_block.specs.declared.code.Block.{Block}
 use Rattle.im_block.specs.declared.unit.Function.{Function}
 use Rattle.im_block.specs.declared.unit.Unit.{Unit as Code}
 use Rattle.im_block.specs.Paths.{IsEdge}
+use Rattle.im_block.specs.Unitwise.{EachFunction}
+use Rattle.im_block.proofs.Unitwise.{Old, zip_old, zip_each}
 use Rattle.im_alloc_placed.specs.Operands.{PlaceExists, PlaceFrom}
 use Rattle.im_alloc_placed.specs.Placeable.{IsPlaceableLine, LineFrom, ExitFrom, first_free, Receives, HasRoom, IsPlaceableFunction, IsPlaceable}
 use Rattle.im_forward.specs.Straight.{target, setting, PassesOn, Copies, Converts}
 use Rattle.im_forward.specs.Forward.{place_using, line_using, exit_using, ForwardsLines, Ends, Kept, LeftOut, Straight, ForwardsBlock, ForwardsOnce}
-use Rattle.im_forward.proofs.Once.{OnceFunctions, OnceUnit}
 use Rattle.im_forward.proofs.Setting.{from_setting, from_passing}
 use Rattle.im_forward.proofs.Shapes.{leaving}
-use Rattle.im_forward.proofs.Sims.{BothBlocks, both_blocks}
 
 -- lines that use no parameter are an entry's
 all_receive : (n : ℕ) (lines : List Line) → All (LineFrom n) lines → Receives n lines
@@ -173,19 +173,8 @@ edge_kept instead (Return (Some r)) b h = h
 
 -- ---- the old block of a new one
 
-record Old (f : Function) (live : ℕ → ℕ → Bool) (b : ℕ) (y : Block) : Type 0 where
-  block : Block
-  at : slice_get f.blocks.items b ≡ Some block
-  same : ForwardsBlock (first_free f) live block y
-
-old_of : (f g : Function) (p : ForwardsOnce f g) (b : ℕ) (y : Block) → slice_get g.blocks.items b ≡ Some y → Old f p.live b y
-old_of f g p b y at = one (slice_get f.blocks.items b) (slice_get g.blocks.items b) refl at (both_blocks (first_free f) p.live f.blocks.items g.blocks.items b p.blocks)
-  where
-    one : (x z : Option Block) → slice_get f.blocks.items b ≡ x → z ≡ Some y → BothBlocks (first_free f) p.live x z → Old f p.live b y
-    one None None e e' h = cc
-    one None (Some z) e e' h = absurd h
-    one (Some x) None e e' h = cc
-    one (Some x) (Some z) e e' h = let same : z ≡ y = cc in record { block = x; at = e; same = subst (ForwardsBlock (first_free f) p.live x) same h }
+old_of : (f g : Function) (p : ForwardsOnce f g) (b : ℕ) (y : Block) → slice_get g.blocks.items b ≡ Some y → Old (ForwardsBlock (first_free f) p.live) f.blocks.items b y
+old_of f g p b y at = zip_old (ForwardsBlock (first_free f) p.live) f.blocks.items g.blocks.items b y p.blocks at
 
 placeable : (statics : ℕ) (f g : Function) → ForwardsOnce f g → IsPlaceableFunction statics f → IsPlaceableFunction statics g
 placeable statics f g p h =
@@ -203,34 +192,26 @@ placeable statics f g p h =
       room = subst HasRoom (sym p.rest) h.room;
       lines = λ b y at.
           let o = old_of f g p b y at in
-          lines_able statics f g objects count free p.live o.block.exit y.exit [] o.block.lines.items y.lines.items o.same.lines (h.lines b o.block o.at);
+          lines_able statics f g objects count free p.live o.old.exit y.exit [] o.old.lines.items y.lines.items o.is.lines (h.lines b o.old o.at);
       others = λ b y at other.
           let o = old_of f g p b y at in
           subst (λ n. All (LineFrom n) y.lines.items) (sym none)
-          (lines_from free p.live o.block.exit y.exit [] o.block.lines.items y.lines.items o.same.lines (h.others b o.block o.at (λ e. other (e ∙ sym entry))));
+          (lines_from free p.live o.old.exit y.exit [] o.old.lines.items y.lines.items o.is.lines (h.others b o.old o.at (λ e. other (e ∙ sym entry))));
       entry = λ y at.
           let o = old_of f g p g.entry y at in
           subst (λ n. Receives n y.lines.items) (sym none)
-          (lines_receive free p.live o.block.exit y.exit [] o.block.lines.items y.lines.items o.same.lines (h.entry o.block (subst (λ b. slice_get f.blocks.items b ≡ Some o.block) entry o.at)));
+          (lines_receive free p.live o.old.exit y.exit [] o.old.lines.items y.lines.items o.is.lines (h.entry o.old (subst (λ b. slice_get f.blocks.items b ≡ Some o.old) entry o.at)));
       exits = λ b y at.
           let o = old_of f g p b y at in
-          let e = (leaving free p.live o.block.exit y.exit [] o.block.lines.items y.lines.items o.same.lines).exit in
-          subst (λ n. ExitFrom n y.exit) (sym none) (subst (ExitFrom free) (sym e.exit) (exit_from free e.instead e.may.no_parameter o.block.exit (h.exits b o.block o.at)));
+          let e = (leaving free p.live o.old.exit y.exit [] o.old.lines.items y.lines.items o.is.lines).exit in
+          subst (λ n. ExitFrom n y.exit) (sym none) (subst (ExitFrom free) (sym e.exit) (exit_from free e.instead e.may.no_parameter o.old.exit (h.exits b o.old o.at)));
       no_return = λ b y at edge.
           let o = old_of f g p b y at in
-          let e = (leaving free p.live o.block.exit y.exit [] o.block.lines.items y.lines.items o.same.lines).exit in
-          parameters ∙ h.no_return b o.block o.at (subst (IsEdge o.block.exit) entry (edge_kept e.instead o.block.exit g.entry (subst (λ x. IsEdge x g.entry) e.exit edge)));
+          let e = (leaving free p.live o.old.exit y.exit [] o.old.lines.items y.lines.items o.is.lines).exit in
+          parameters ∙ h.no_return b o.old o.at (subst (IsEdge o.old.exit) entry (edge_kept e.instead o.old.exit g.entry (subst (λ x. IsEdge x g.entry) e.exit edge)));
     }
 
-all_placeable : (statics : ℕ) (fs gs : List Function) → OnceFunctions fs gs → All (IsPlaceableFunction statics) fs → All (IsPlaceableFunction statics) gs
-all_placeable statics [] [] h k = All-nil (IsPlaceableFunction statics)
-all_placeable statics [] (g ∷ gs) h k = absurd h
-all_placeable statics (f ∷ fs) [] h k = absurd h
-all_placeable statics (f ∷ fs) (g ∷ gs) h k =
-    All-cons (IsPlaceableFunction statics) g gs (placeable statics f g h.0 (All-head (IsPlaceableFunction statics) f fs k))
-    (all_placeable statics fs gs h.1 (All-tail (IsPlaceableFunction statics) f fs k))
-
-pub unit_placeable : (old new : Code) → OnceUnit old new → IsPlaceable old → IsPlaceable new
+pub unit_placeable : (old new : Code) → EachFunction ForwardsOnce old new → IsPlaceable old → IsPlaceable new
 unit_placeable old new p h = subst IsPlaceable (sym p.rest) (record {
-  functions = all_placeable (length old.statics.items) old.functions.items new.functions.items p.functions h.functions;
+  functions = zip_each ForwardsOnce (IsPlaceableFunction (length old.statics.items)) (IsPlaceableFunction (length old.statics.items)) (placeable (length old.statics.items)) old.functions.items new.functions.items p.functions h.functions;
 })

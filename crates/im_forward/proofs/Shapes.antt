@@ -1,6 +1,7 @@
 -- What forwarding leaves of code: its order, what it costs, that no cut stands in it, and what its lines name.
-use Rattle.std.proofs.Common.{◌≡◌, ℕ, zero, suc, ◌<◌, ◌≤◌, List, [], ◌∷◌, ◌++◌, length, take, Option, Some, None, refl, sym, ap, ◌∙◌, subst, arith}
+use Rattle.std.proofs.Common.{◌≡◌, ℕ, ◌<◌, ◌≤◌, List, [], ◌∷◌, ◌++◌, length, Some, None, refl, sym, ap, ◌∙◌, subst, arith}
 use Rattle.std.specs.Prelude.{slice_get, All, Bool}
+use Rattle.std.specs.List.{AllZip}
 use Rattle.std.proofs.lemmas.List.Elements.{All-nil, All-cons, All-head, All-tail}
 use Rattle.im_block.specs.declared.code.Place.{Place}
 use Rattle.im_block.specs.declared.code.Place.TheVariants.{Static, Local, Through}
@@ -11,16 +12,16 @@ use Rattle.im_block.specs.declared.code.Exit.TheVariants.{Jump, Turn, Branch, Re
 use Rattle.im_block.specs.declared.code.Block.{Block}
 use Rattle.im_block.specs.declared.unit.Function.{Function}
 use Rattle.im_block.specs.declared.unit.Unit.{Unit as Code}
-use Rattle.im_block.specs.Shape.{Descends, IsOrdered, AllOrdered, sum_of, place_registers, cost, exit_cost, block_cost, function_cost}
-use Rattle.im_block.specs.Wellformed.{HasCells, PlaceWithin, LineWithin, ExitWithin, ExitThere, Takes, LineThere, IsBlock, IsFunction, accesses_of_line, accesses_of_lines, accesses_of_blocks, accesses_of_functions, AreApart, objects_below, IsWellFormed}
+use Rattle.im_block.specs.Shape.{Descends, AllOrdered, sum_of, place_registers, cost, exit_cost, block_cost, function_cost}
+use Rattle.im_block.specs.Wellformed.{HasCells, PlaceWithin, LineWithin, ExitWithin, ExitThere, LineThere, IsBlock, IsFunction, accesses_of_line, accesses_of_lines, accesses_of_blocks, accesses_of_functions, AreApart, IsWellFormed}
+use Rattle.im_block.specs.Unitwise.{EachFunction}
+use Rattle.im_block.proofs.Unitwise.{zip_at, zip_old, zip_length, zip_each, zip_less, takes_kept, numbers_kept}
 use Rattle.im_alloc_placed.specs.Apart.{IsNoCut, AllUncut}
 use Rattle.im_alloc_placed.specs.Placeable.{first_free}
 use Rattle.im_forward.specs.Copies.{IsCopy, Copied, Further, Since, IsSame, Itself, CopyOf}
 use Rattle.im_forward.specs.Straight.{setting}
-use Rattle.im_forward.specs.Forward.{place_using, line_using, exit_using, ForwardsExit, ForwardsLines, Ends, Kept, LeftOut, Straight, ForwardsBlock, ForwardsBlocks, ForwardsOnce}
-use Rattle.im_forward.proofs.Once.{OnceFunctions, OnceUnit}
+use Rattle.im_forward.specs.Forward.{place_using, line_using, exit_using, ForwardsExit, ForwardsLines, Ends, Kept, LeftOut, Straight, ForwardsBlock, ForwardsOnce}
 use Rattle.im_forward.proofs.Setting.{cost_setting, uncut_setting, within_setting, there_setting, accesses_setting, within_passing, accesses_passing}
-use Rattle.im_forward.proofs.Sims.{BothBlocks, both_blocks, BothFunctions, both_functions}
 
 -- the exit, by the lines before it
 pub record Leaving (free : ℕ) (a b : Exit) : Type 0 where
@@ -82,19 +83,15 @@ lines_cost free live a b before old new (Straight gone rest rest' x y t v p left
     let same : cost (setting v x) ≡ cost x = cost_setting v x in
     omega (arith, less, same)
 
-blocks_cost : (free : ℕ) (live : ℕ → ℕ → Bool) (xs ys : List Block) → ForwardsBlocks free live xs ys → sum_of block_cost ys ≤ sum_of block_cost xs
-blocks_cost free live [] [] h = omega arith
-blocks_cost free live [] (y ∷ ys) h = absurd h
-blocks_cost free live (x ∷ xs) [] h = absurd h
-blocks_cost free live (x ∷ xs) (y ∷ ys) h =
-    let lines = lines_cost free live x.exit y.exit [] x.lines.items y.lines.items h.0.lines in
-    let e = (leaving free live x.exit y.exit [] x.lines.items y.lines.items h.0.lines).exit in
+block_less : (free : ℕ) (live : ℕ → ℕ → Bool) (x y : Block) → ForwardsBlock free live x y → block_cost y ≤ block_cost x
+block_less free live x y h =
+    let lines = lines_cost free live x.exit y.exit [] x.lines.items y.lines.items h.lines in
+    let e = (leaving free live x.exit y.exit [] x.lines.items y.lines.items h.lines).exit in
     let exit : exit_cost y.exit ≡ exit_cost x.exit = ap exit_cost e.exit ∙ exit_same e.instead x.exit in
-    let rest = blocks_cost free live xs ys h.1 in
-    omega (arith, lines, exit, rest)
+    omega (arith, lines, exit)
 
 pub costs_once : (old new : Function) → ForwardsOnce old new → function_cost new ≤ function_cost old
-costs_once old new p = let a = blocks_cost (first_free old) p.live old.blocks.items new.blocks.items p.blocks in omega (arith, a)
+costs_once old new p = let a = zip_less (ForwardsBlock (first_free old) p.live) block_cost (block_less (first_free old) p.live) old.blocks.items new.blocks.items p.blocks in omega (arith, a)
 
 -- ---- order
 
@@ -105,28 +102,17 @@ descends instead (Branch on x y) b h = h
 descends instead (Return None) b h = h
 descends instead (Return (Some r)) b h = h
 
-blocks_ordered : (free : ℕ) (live : ℕ → ℕ → Bool) (xs ys : List Block) → ForwardsBlocks free live xs ys → IsOrdered xs → IsOrdered ys
-blocks_ordered free live xs ys h ordered = record { each = λ b block at. one b block (slice_get xs b) (slice_get ys b) (both_blocks free live xs ys b h) refl at }
-  where
-    one : (b : ℕ) (block : Block) (p q : Option Block) → BothBlocks free live p q → p ≡ slice_get xs b → q ≡ Some block → Descends block.exit b
-    one b block None None both at at' = cc
-    one b block None (Some y) both at at' = absurd both
-    one b block (Some x) None both at at' = absurd both
-    one b block (Some x) (Some y) both at at' =
-        let same : y ≡ block = cc in
-        let e = (leaving free live x.exit y.exit [] x.lines.items y.lines.items both.lines).exit in
-        subst (λ (z : Block). Descends z.exit b) same (subst (λ z. Descends z b) (sym e.exit) (descends e.instead x.exit b (ordered.each b x (sym at))))
-
-pub ordered_kept : (old new : Code) → OnceUnit old new → AllOrdered old → AllOrdered new
-ordered_kept old new all ordered = record { each = λ i h at. one i h (slice_get old.functions.items i) (slice_get new.functions.items i) (both_functions old.functions.items new.functions.items i all.functions) refl at }
-  where
-    one : (i : ℕ) (h : Function) (p q : Option Function) → BothFunctions p q → p ≡ slice_get old.functions.items i → q ≡ Some h → IsOrdered h.blocks.items
-    one i h None None both at at' = cc
-    one i h None (Some q) both at at' = absurd both
-    one i h (Some f) None both at at' = absurd both
-    one i h (Some f) (Some q) both at at' =
-        let same : q ≡ h = cc in
-        subst (λ (x : Function). IsOrdered x.blocks.items) same (blocks_ordered (first_free f) both.live f.blocks.items q.blocks.items both.blocks (ordered.each i f (sym at)))
+pub ordered_kept : (old new : Code) → EachFunction ForwardsOnce old new → AllOrdered old → AllOrdered new
+ordered_kept old new all ordered = record {
+  each = λ i g at.
+      let f = zip_old ForwardsOnce old.functions.items new.functions.items i g all.functions at in
+      record {
+        each = λ b y there.
+            let x = zip_old (ForwardsBlock (first_free f.old) f.is.live) f.old.blocks.items g.blocks.items b y f.is.blocks there in
+            let e = (leaving (first_free f.old) f.is.live x.old.exit y.exit [] x.old.lines.items y.lines.items x.is.lines).exit in
+            subst (λ z. Descends z b) (sym e.exit) (descends e.instead x.old.exit b ((ordered.each i f.old f.at).each b x.old x.at));
+      };
+}
 
 -- ---- no cuts
 
@@ -162,27 +148,13 @@ lines_uncut free live a b before old new (Straight gone rest rest' x y t v p lef
     All-cons IsNoCut (setting v x) rest' (uncut_setting v x (All-head IsNoCut x (y ∷ rest) h))
     (lines_uncut free live a b (y ∷ x ∷ gone) rest rest' left (All-tail IsNoCut y rest (All-tail IsNoCut x (y ∷ rest) h)))
 
-pub uncut_kept : (old new : Code) → OnceUnit old new → AllUncut old → AllUncut new
+pub uncut_kept : (old new : Code) → EachFunction ForwardsOnce old new → AllUncut old → AllUncut new
 uncut_kept old new p h = record {
-  each = λ i g b y at there. in_function i g b y (slice_get old.functions.items i) (slice_get new.functions.items i) (both_functions old.functions.items new.functions.items i p.functions) refl at there;
+  each = λ i g b y at there.
+      let f = zip_old ForwardsOnce old.functions.items new.functions.items i g p.functions at in
+      let x = zip_old (ForwardsBlock (first_free f.old) f.is.live) f.old.blocks.items g.blocks.items b y f.is.blocks there in
+      lines_uncut (first_free f.old) f.is.live x.old.exit y.exit [] x.old.lines.items y.lines.items x.is.lines (h.each i f.old b x.old f.at x.at);
 }
-  where
-    in_block : (i : ℕ) (f : Function) (free : ℕ) (live : ℕ → ℕ → Bool) (b : ℕ) (y : Block) (o q : Option Block) → BothBlocks free live o q → slice_get old.functions.items i ≡ Some f → o ≡ slice_get f.blocks.items b → q ≡ Some y → All IsNoCut y.lines.items
-    in_block i f free live b y None None both at there is = cc
-    in_block i f free live b y None (Some z) both at there is = absurd both
-    in_block i f free live b y (Some x) None both at there is = absurd both
-    in_block i f free live b y (Some x) (Some z) both at there is =
-        let same : z ≡ y = cc in
-        subst (λ (k : Block). All IsNoCut k.lines.items) same (lines_uncut free live x.exit z.exit [] x.lines.items z.lines.items both.lines (h.each i f b x at (sym there)))
-
-    in_function : (i : ℕ) (g : Function) (b : ℕ) (y : Block) (o q : Option Function) → BothFunctions o q → o ≡ slice_get old.functions.items i → q ≡ Some g → slice_get g.blocks.items b ≡ Some y → All IsNoCut y.lines.items
-    in_function i g b y None None both at is there = cc
-    in_function i g b y None (Some k) both at is there = absurd both
-    in_function i g b y (Some f) None both at is there = absurd both
-    in_function i g b y (Some f) (Some k) both at is there =
-        let same : k ≡ g = cc in
-        let there' : slice_get k.blocks.items b ≡ Some y = subst (λ (q : Function). slice_get q.blocks.items b ≡ Some y) (sym same) there in
-        in_block i f (first_free f) both.live b y (slice_get f.blocks.items b) (slice_get k.blocks.items b) (both_blocks (first_free f) both.live f.blocks.items k.blocks.items b both.blocks) (sym at) refl there'
 
 -- ---- what lines name
 
@@ -324,7 +296,7 @@ lines_accesses free live a b before old new (Straight gone rest rest' x y t v p 
     ∙ ap (λ (l : List ℕ). accesses_of_line x ++ l) (lines_accesses free live a b (y ∷ x ∷ gone) rest rest' left
     ∙ ap (λ (l : List ℕ). l ++ accesses_of_lines rest) (sym (accesses_passing x t v y p.passes)))
 
-blocks_accesses : (free : ℕ) (live : ℕ → ℕ → Bool) (xs ys : List Block) → ForwardsBlocks free live xs ys → accesses_of_blocks ys ≡ accesses_of_blocks xs
+blocks_accesses : (free : ℕ) (live : ℕ → ℕ → Bool) (xs ys : List Block) → AllZip (ForwardsBlock free live) xs ys → accesses_of_blocks ys ≡ accesses_of_blocks xs
 blocks_accesses free live [] [] h = refl
 blocks_accesses free live [] (y ∷ ys) h = absurd h
 blocks_accesses free live (x ∷ xs) [] h = absurd h
@@ -332,7 +304,7 @@ blocks_accesses free live (x ∷ xs) (y ∷ ys) h =
     ap (λ (l : List ℕ). l ++ accesses_of_blocks ys) (lines_accesses free live x.exit y.exit [] x.lines.items y.lines.items h.0.lines)
     ∙ ap (λ (l : List ℕ). accesses_of_lines x.lines.items ++ l) (blocks_accesses free live xs ys h.1)
 
-functions_accesses : (fs gs : List Function) → OnceFunctions fs gs → accesses_of_functions gs ≡ accesses_of_functions fs
+functions_accesses : (fs gs : List Function) → AllZip ForwardsOnce fs gs → accesses_of_functions gs ≡ accesses_of_functions fs
 functions_accesses [] [] h = refl
 functions_accesses [] (g ∷ gs) h = absurd h
 functions_accesses (f ∷ fs) [] h = absurd h
@@ -342,29 +314,10 @@ functions_accesses (f ∷ fs) (g ∷ gs) h =
 
 -- functions
 
-pub blocks_length : (free : ℕ) (live : ℕ → ℕ → Bool) (xs ys : List Block) → ForwardsBlocks free live xs ys → length ys ≡ length xs
-blocks_length free live [] [] h = refl
-blocks_length free live [] (y ∷ ys) h = absurd h
-blocks_length free live (x ∷ xs) [] h = absurd h
-blocks_length free live (x ∷ xs) (y ∷ ys) h = ap suc (blocks_length free live xs ys h.1)
+parameters_kept : (f g : Function) → ForwardsOnce f g → g.parameters ≡ f.parameters
+parameters_kept f g p = ap (λ (k : Function). k.parameters) p.rest
 
-takes_kept : (p q : Option Function) (count : ℕ) → BothFunctions p q → Takes p count → Takes q count
-takes_kept None None count both h = h
-takes_kept None (Some g) count both h = absurd both
-takes_kept (Some f) None count both h = absurd both
-takes_kept (Some f) (Some g) count both h = ap (λ (k : Function). k.parameters) both.rest ∙ h
-
-objects_sum : (fs gs : List Function) (i : ℕ) → OnceFunctions fs gs → sum_of (λ (f : Function). length f.objects.items) (take i gs) ≡ sum_of (λ (f : Function). length f.objects.items) (take i fs)
-objects_sum fs gs zero h = refl
-objects_sum [] [] (suc i) h = refl
-objects_sum [] (g ∷ gs) (suc i) h = absurd h
-objects_sum (f ∷ fs) [] (suc i) h = absurd h
-objects_sum (f ∷ fs) (g ∷ gs) (suc i) h =
-    let a : length g.objects.items ≡ length f.objects.items = ap (λ (k : Function). length k.objects.items) h.0.rest in
-    let b = objects_sum fs gs i h.1 in
-    omega (arith, a, b)
-
-module _ (fs gs : List Function) (all : OnceFunctions fs gs) where
+module _ (fs gs : List Function) (all : AllZip ForwardsOnce fs gs) where
   called : (line : Line) → LineThere fs line → LineThere gs line
   called (Put to z) h = h
   called (PutNull to) h = h
@@ -382,7 +335,7 @@ module _ (fs gs : List Function) (all : OnceFunctions fs gs) where
   called (Reload to slot access) h = h
   called (Spill slot from access) h = h
   called (Cut cause) h = h
-  called (Call to i first count) h = takes_kept (slice_get fs i) (slice_get gs i) count (both_functions fs gs i all) h
+  called (Call to i first count) h = takes_kept ForwardsOnce parameters_kept (slice_get fs i) (slice_get gs i) count (zip_at ForwardsOnce fs gs i all) h
   called (Serve to service None) h = h
   called (Serve to service (Some from)) h = h
 
@@ -392,7 +345,7 @@ module _ (fs gs : List Function) (all : OnceFunctions fs gs) where
 
   module _ (f g : Function) (p : ForwardsOnce f g) where
     count : length g.blocks.items ≡ length f.blocks.items
-    count = blocks_length (first_free f) p.live f.blocks.items g.blocks.items p.blocks
+    count = zip_length (ForwardsBlock (first_free f) p.live) f.blocks.items g.blocks.items p.blocks
 
     registers : g.register_count ≡ f.register_count
     registers = ap (λ (k : Function). k.register_count) p.rest
@@ -407,12 +360,6 @@ module _ (fs gs : List Function) (all : OnceFunctions fs gs) where
           lines_there = lines_there gs (first_free f) p.live x.exit y.exit [] x.lines.items y.lines.items h.lines (all_called x.lines.items k.lines_there);
           exit_there = subst (λ n. ExitThere n y.exit) (sym count) (subst (ExitThere (length f.blocks.items)) (sym e.exit) (exit_there (length f.blocks.items) e.instead x.exit k.exit_there));
         }
-
-    blocks_formed : (xs ys : List Block) → ForwardsBlocks (first_free f) p.live xs ys → All (IsBlock fs f) xs → All (IsBlock gs g) ys
-    blocks_formed [] [] h k = All-nil (IsBlock gs g)
-    blocks_formed [] (y ∷ ys) h k = absurd h
-    blocks_formed (x ∷ xs) [] h k = absurd h
-    blocks_formed (x ∷ xs) (y ∷ ys) h k = All-cons (IsBlock gs g) y ys (block_formed x y h.0 (All-head (IsBlock fs f) x xs k)) (blocks_formed xs ys h.1 (All-tail (IsBlock fs f) x xs k))
 
     function_formed : IsFunction fs f → IsFunction gs g
     function_formed k =
@@ -429,31 +376,17 @@ module _ (fs gs : List Function) (all : OnceFunctions fs gs) where
           received = omega (arith, received, many, parameters, first);
           entry = omega (arith, begins, same, entry);
           objects = subst (λ (z : Function). All HasCells z.objects.items) (sym p.rest) k.objects;
-          blocks = blocks_formed f.blocks.items g.blocks.items p.blocks k.blocks;
+          blocks = zip_each (ForwardsBlock (first_free f) p.live) (IsBlock fs f) (IsBlock gs g) block_formed f.blocks.items g.blocks.items p.blocks k.blocks;
         }
 
-  functions_formed : (xs ys : List Function) → OnceFunctions xs ys → All (IsFunction fs) xs → All (IsFunction gs) ys
-  functions_formed [] [] h k = All-nil (IsFunction gs)
-  functions_formed [] (y ∷ ys) h k = absurd h
-  functions_formed (x ∷ xs) [] h k = absurd h
-  functions_formed (x ∷ xs) (y ∷ ys) h k = All-cons (IsFunction gs) y ys (function_formed x y h.0 (All-head (IsFunction fs) x xs k)) (functions_formed xs ys h.1 (All-tail (IsFunction fs) x xs k))
-
-pub formed : (old new : Code) → OnceUnit old new → IsWellFormed old → IsWellFormed new
-formed old new p h = subst IsWellFormed (sym p.rest) (record {
-  statics = h.statics;
-  functions = functions_formed old.functions.items new.functions.items p.functions old.functions.items new.functions.items p.functions h.functions;
-  numbered = λ i g at. at_number i g at (slice_get old.functions.items i) (slice_get new.functions.items i) refl at (both_functions old.functions.items new.functions.items i p.functions);
-  main = takes_kept (slice_get old.functions.items old.main) (slice_get new.functions.items old.main) 0 (both_functions old.functions.items new.functions.items old.main p.functions) h.main;
-  accesses = subst AreApart (sym (functions_accesses old.functions.items new.functions.items p.functions)) h.accesses;
-})
-  where
-    at_number : (i : ℕ) (g : Function) → slice_get new.functions.items i ≡ Some g → (x y : Option Function) → slice_get old.functions.items i ≡ x → y ≡ Some g → BothFunctions x y → g.first_object ≡ objects_below (record old { functions = new.functions }) i
-    at_number i g at None None e e' b = cc
-    at_number i g at None (Some y) e e' b = absurd b
-    at_number i g at (Some x) None e e' b = absurd b
-    at_number i g at (Some x) (Some y) e e' b =
-        let same : y ≡ g = cc in
-        let first : g.first_object ≡ x.first_object = ap (λ (k : Function). k.first_object) (sym same) ∙ ap (λ (k : Function). k.first_object) b.rest in
-        let sums = objects_sum old.functions.items new.functions.items i p.functions in
-        let before = h.numbered i x e in
-        omega arith
+pub formed : (old new : Code) → EachFunction ForwardsOnce old new → IsWellFormed old → IsWellFormed new
+formed old new p h =
+    let fs = old.functions.items in
+    let gs = new.functions.items in
+    subst IsWellFormed (sym p.rest) (record {
+      statics = h.statics;
+      functions = zip_each ForwardsOnce (IsFunction fs) (IsFunction gs) (function_formed fs gs p.functions) fs gs p.functions h.functions;
+      numbered = numbers_kept ForwardsOnce (λ f g k. ap (λ (z : Function). z.first_object) k.rest) (λ f g k. ap (λ (z : Function). length z.objects.items) k.rest) (length old.statics.items) fs gs p.functions h.numbered;
+      main = takes_kept ForwardsOnce parameters_kept (slice_get fs old.main) (slice_get gs old.main) 0 (zip_at ForwardsOnce fs gs old.main p.functions) h.main;
+      accesses = subst AreApart (sym (functions_accesses fs gs p.functions)) h.accesses;
+    })

@@ -1,10 +1,9 @@
 -- Forwarded code does what the code did, line by line but for copies that are left out.
-use Rattle.std.proofs.Common.{◌≡◌, ◌⊎◌, inl, inr, ℕ, zero, suc, ◌+◌, ◌<◌, List, [], ◌∷◌, ◌++◌, length, Bool, true, false, Option, Some, None, refl, sym, ap, ◌∙◌, subst, append-nil, ◌≤◌, arith}
-use Rattle.std.specs.Prelude.{slice_get, nat_abs, pos, negsuc, nat_le, nat_lt, ◌==◌, ◌||◌, if◌then◌else◌}
+use Rattle.std.proofs.Common.{◌≡◌, ◌⊎◌, inl, inr, ℕ, zero, suc, ◌+◌, ◌<◌, List, [], ◌∷◌, ◌++◌, Bool, true, false, Option, Some, None, refl, sym, ap, ◌∙◌, subst, append-nil, ◌≤◌, arith}
+use Rattle.std.specs.Prelude.{slice_get, pos, nat_le, ◌==◌, ◌||◌, if◌then◌else◌}
+use Rattle.std.specs.List.{AllZip}
 use Rattle.std.proofs.lemmas.Bool.{eqb-true}
 use Rattle.im_num.specs.declared.kind.Kind.{Kind}
-use Rattle.im_num.specs.declared.kind.Kind.TheVariants.{U8}
-use Rattle.im_num.specs.Kinds.{wrap}
 use Rattle.im_store.specs.Checks.{Checked, Fine, Bad, then_}
 use Rattle.im_store.specs.Objects.{Value, Number, Null, Unset}
 use Rattle.im_store.specs.Access.{read_cell, write_cell}
@@ -21,57 +20,30 @@ use Rattle.im_block.specs.declared.unit.Function.{Function}
 use Rattle.im_block.specs.declared.unit.Unit.{Unit as Code}
 use Rattle.im_block.specs.Meaning.{Setting, Site, site_of, slot_site, Event, Reads, Tests, Serves, Frame, State, Next, Goes, Stops, Found, Left, Location, on_checked, takes, found, found_in, left_in, stored, kept, kept_by, with_rest, with_register, sets as sets_register, computes, reads, writes, activates, waiting, passed, enters, served, does, goes_to, back, leaves, step_at, step, number_of, as_number, as_truth, converted, computed, computed_one, condition, negation, compared, moved, distance_of, place_of, further, location_of, write_place, write_slot, slot_of, next_active, ended}
 use Rattle.im_block.specs.Runs.{start, before, Over, goes_on, exec, Runs}
+use Rattle.im_block.specs.Unitwise.{EachFunction}
+use Rattle.im_block.proofs.Unitwise.{Both, zip_at}
 use Rattle.im_alloc_placed.specs.Placeable.{first_free}
 use Rattle.im_alloc_relation.specs.Live.{place_uses, uses, sets, exit_lives, lives}
 use Rattle.im_forward.specs.Copies.{IsCopy}
 use Rattle.im_forward.specs.Straight.{target, setting, Gives, PassesOn, Copies, Converts, IsPair as IsStraightPair}
-use Rattle.im_forward.specs.Forward.{place_using, line_using, exit_using, MayUse, ForwardsLines, Ends, Kept, LeftOut, Straight, ForwardsBlock, ForwardsBlocks, ForwardsOnce}
-use Rattle.im_forward.proofs.Once.{OnceFunctions, OnceUnit}
+use Rattle.im_forward.specs.Forward.{place_using, line_using, exit_using, MayUse, ForwardsLines, Ends, Kept, LeftOut, Straight, ForwardsBlock, ForwardsOnce}
 use Rattle.im_forward.proofs.Setting.{sets_target, sets_setting, uses_setting, sets_passing, no_copy}
 use Rattle.im_forward.proofs.Numbers.{IsNumber, fine_same, number_is, converts_to, unary_to, computes_to, truth_to}
 use Rattle.im_forward.proofs.Same.{or_left, or_right, itself, HaveCopies, same_value, no_copies, copies_next, unset_copy, set_stays, set_here, set_alike, copy_set, used_lives, kept_lives, argument, passed_alike}
 
--- blocks and functions, one by one
-
 some_same : (a b : ℕ) → Some a ≡ Some b → a ≡ b
 some_same a b e = cc
-
-abbrev pub BothBlocks : ℕ → (ℕ → ℕ → Bool) → Option Block → Option Block → Type 0
-BothBlocks free live None None = Unit {0}
-BothBlocks free live (Some x) (Some y) = ForwardsBlock free live x y
-BothBlocks free live None (Some y) = ⊥
-BothBlocks free live (Some x) None = ⊥
-
-pub both_blocks : (free : ℕ) (live : ℕ → ℕ → Bool) (xs ys : List Block) (i : ℕ) → ForwardsBlocks free live xs ys → BothBlocks free live (slice_get xs i) (slice_get ys i)
-both_blocks free live [] [] i h = tt
-both_blocks free live [] (y ∷ ys) i h = absurd h
-both_blocks free live (x ∷ xs) [] i h = absurd h
-both_blocks free live (x ∷ xs) (y ∷ ys) zero h = h.0
-both_blocks free live (x ∷ xs) (y ∷ ys) (suc i) h = both_blocks free live xs ys i h.1
-
-abbrev pub BothFunctions : Option Function → Option Function → Type 0
-BothFunctions None None = Unit {0}
-BothFunctions (Some f) (Some h) = ForwardsOnce f h
-BothFunctions None (Some h) = ⊥
-BothFunctions (Some f) None = ⊥
-
-pub both_functions : (fs hs : List Function) (i : ℕ) → OnceFunctions fs hs → BothFunctions (slice_get fs i) (slice_get hs i)
-both_functions [] [] i h = tt
-both_functions [] (y ∷ ys) i h = absurd h
-both_functions (x ∷ xs) [] i h = absurd h
-both_functions (x ∷ xs) (y ∷ ys) zero h = h.0
-both_functions (x ∷ xs) (y ∷ ys) (suc i) h = both_functions xs ys i h.1
 
 -- the frame with another rest of its block, another exit and other registers
 abbrev with_new : Frame → List Line → Exit → (ℕ → Value) → Frame
 with_new x rest leaves registers = record x { spot = record x.spot { rest = rest; exit = leaves }; registers = registers }
 
-module _ (u w : Code) (g : Setting) (all : OnceFunctions u.functions.items w.functions.items) where
+module _ (u w : Code) (g : Setting) (all : AllZip ForwardsOnce u.functions.items w.functions.items) where
   abbrev v : Code
   v = record u { functions = w.functions }
 
-  both_at : (i : ℕ) → BothFunctions (slice_get u.functions.items i) (slice_get w.functions.items i)
-  both_at i = both_functions u.functions.items w.functions.items i all
+  both_at : (i : ℕ) → Both ForwardsOnce (slice_get u.functions.items i) (slice_get w.functions.items i)
+  both_at i = zip_at ForwardsOnce u.functions.items w.functions.items i all
 
   -- an activation at work, and what is left of it in the new code: what lives there is the same
   record FrameOk (x : Frame) (rest : List Line) (leaves : Exit) (registers : ℕ → Value) : Type 0 where
@@ -155,13 +127,13 @@ module _ (u w : Code) (g : Setting) (all : OnceFunctions u.functions.items w.fun
   either_sim true x y x' y' p q = p
   either_sim false x y x' y' p q = q
 
-  block_sim : (free : ℕ) (live : ℕ → ℕ → Bool) (x y : Option Block) (p q : Block → Next) → BothBlocks free live x y → ((a b : Block) → x ≡ Some a → y ≡ Some b → ForwardsBlock free live a b → NextSim (p a) (q b)) → NextSim (on_checked (found x) p) (on_checked (found y) q)
+  block_sim : (free : ℕ) (live : ℕ → ℕ → Bool) (x y : Option Block) (p q : Block → Next) → Both (ForwardsBlock free live) x y → ((a b : Block) → x ≡ Some a → y ≡ Some b → ForwardsBlock free live a b → NextSim (p a) (q b)) → NextSim (on_checked (found x) p) (on_checked (found y) q)
   block_sim free live None None p q b h = (refl, refl)
   block_sim free live None (Some y) p q b h = absurd b
   block_sim free live (Some x) None p q b h = absurd b
   block_sim free live (Some x) (Some y) p q b h = h x y refl refl b
 
-  function_sim : (x y : Option Function) (p q : Function → Next) → BothFunctions x y → ((a b : Function) → x ≡ Some a → y ≡ Some b → ForwardsOnce a b → NextSim (p a) (q b)) → NextSim (on_checked (found x) p) (on_checked (found y) q)
+  function_sim : (x y : Option Function) (p q : Function → Next) → Both ForwardsOnce x y → ((a b : Function) → x ≡ Some a → y ≡ Some b → ForwardsOnce a b → NextSim (p a) (q b)) → NextSim (on_checked (found x) p) (on_checked (found y) q)
   function_sim None None p q b h = (refl, refl)
   function_sim None (Some y) p q b h = absurd b
   function_sim (Some x) None p q b h = absurd b
@@ -212,7 +184,7 @@ module _ (u w : Code) (g : Setting) (all : OnceFunctions u.functions.items w.fun
         function_sim (slice_get u.functions.items i) (slice_get w.functions.items i) _ _ (both_at i) (λ f h at at' same.
         subst (λ (z : Function). NextSim (old_entry i f first count fuel) (new_entry i z first count fuel)) (sym same.rest)
         (either_sim (nat_le (next_active u g i s).depth g.stack) _ _ _ _
-        (block_sim (first_free f) same.live (slice_get f.blocks.items f.entry) (slice_get h.blocks.items f.entry) _ _ (both_blocks (first_free f) same.live f.blocks.items h.blocks.items f.entry same.blocks)
+        (block_sim (first_free f) same.live (slice_get f.blocks.items f.entry) (slice_get h.blocks.items f.entry) _ _ (zip_at (ForwardsBlock (first_free f) same.live) f.blocks.items h.blocks.items f.entry same.blocks)
         (λ a b there there' p. begun_sim i f h first count fuel a b at at' same args waits p))
         (refl, refl)))
 
@@ -614,7 +586,7 @@ module _ (u w : Code) (g : Setting) (all : OnceFunctions u.functions.items w.fun
     to_sim b fuel alike =
         subst (λ o. NextSim (on_checked (found o) old_to) (goes_to v g b fuel t)) (sym at)
         (subst (λ o. NextSim (old_to function) (on_checked (found o) new_to)) (sym at_other)
-        (block_sim (first_free function) same.live (slice_get function.blocks.items b) (slice_get other.blocks.items b) _ _ (both_blocks (first_free function) same.live function.blocks.items other.blocks.items b same.blocks)
+        (block_sim (first_free function) same.live (slice_get function.blocks.items b) (slice_get other.blocks.items b) _ _ (zip_at (ForwardsBlock (first_free function) same.live) function.blocks.items other.blocks.items b same.blocks)
         (λ x y there there' p. (
           record {
             rest = y.lines.items;
@@ -822,7 +794,7 @@ module _ (u w : Code) (g : Setting) (all : OnceFunctions u.functions.items w.fun
             let e = again m (omega arith) two.then_is two.after more two.same (ap (λ (z : List Event). exec u g m two.then_is z) (sym (append-nil more)) ∙ on) in
             (suc e.0, ap (λ (z : Next). goes_on z (exec v g e.0) events) two.after_goes ∙ e.1)
 
-pub whole : (old new : Code) → OnceUnit old new → (g : Setting) (n : ℕ) (o : Outcome) (run : List Event) → Runs old g n o run → Runs new g n o run
+pub whole : (old new : Code) → EachFunction ForwardsOnce old new → (g : Setting) (n : ℕ) (o : Outcome) (run : List Event) → Runs old g n o run → Runs new g n o run
 whole old new p g n o run r =
     let e = next_ends old new g p.functions o run r.steps (start old g n) (start (record old { functions = new.functions }) g n) [] (ends_same old new g p.functions o run r.steps r.steps (omega arith)) (start_sim old new g p.functions n) r.over in
     subst (λ (z : Code). Runs z g n o run) (sym p.rest) (record { steps = e.0; over = e.1 })

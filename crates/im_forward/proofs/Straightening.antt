@@ -4,7 +4,7 @@ use Rattle.std.specs.Prelude.{◌==◌, ◌&&◌, not, slice_get, All, Vec}
 use Rattle.std.specs.declared.alloc.Global.{Global}
 use Rattle.std.specs.List.{AllZip}
 use Rattle.std.proofs.lemmas.List.{drop_all}
-use Rattle.std.proofs.lemmas.List.Elements.{All-nil, All-cons, All-head, All-tail}
+use Rattle.std.proofs.lemmas.List.Elements.{All-nil}
 use Rattle.im_block.specs.declared.code.Place.{Place}
 use Rattle.im_block.specs.declared.code.Place.TheVariants.{Static, Local, Through}
 use Rattle.im_block.specs.declared.code.Line.{Line}
@@ -15,17 +15,18 @@ use Rattle.im_block.specs.declared.code.Block.{Block}
 use Rattle.im_block.specs.declared.unit.Registers.TheVariants.{Virtual}
 use Rattle.im_block.specs.declared.unit.Function.{Function}
 use Rattle.im_block.specs.Wellformed.{LineWithin, ExitWithin, ExitThere}
+use Rattle.im_block.proofs.Unitwise.{zip_old, zip_length, zip_each, zip_same, zip_so}
 use Rattle.im_alloc_placed.specs.Placeable.{first_free}
 use Rattle.im_alloc_relation.specs.Live.{uses, sets, lives}
 use Rattle.im_block_live.specs.Words.{IsWithin, HaveWords}
 use Rattle.im_block_live.proofs.Paths.{either}
 use Rattle.im_forward.specs.Copies.{Itself}
-use Rattle.im_forward.specs.Straight.{setting, IsPair, StraightLines, Ends as NoMore, Stays as Stayed, Pairs, IsStraight, Straightens, StraightenBlocks, AllStraighten}
-use Rattle.im_forward.specs.Forward.{place_using, line_using, exit_using, MayUse, ForwardsLine, ForwardsExit, ForwardsLines, Ends, Kept, Straight, ForwardsBlock, ForwardsBlocks, ForwardsOnce, ForwardsFunction, Once, Then}
+use Rattle.im_forward.specs.Straight.{setting, IsPair, StraightLines, Ends as NoMore, Stays as Stayed, Pairs, IsStraight, Straightens, AllStraighten}
+use Rattle.im_forward.specs.Forward.{place_using, line_using, exit_using, MayUse, ForwardsLine, ForwardsExit, ForwardsLines, Ends, Kept, Straight, ForwardsBlock, ForwardsOnce, ForwardsFunction, Once, Then}
 use Rattle.im_forward.specs.Known.{IsReady}
 use Rattle.im_forward.proofs.Same.{both_true, itself, used_lives, kept_lives}
 use Rattle.im_forward.proofs.Setting.{sets_target, sets_setting, uses_setting, sets_passing}
-use Rattle.im_forward.proofs.Shapes.{lines_within, blocks_length}
+use Rattle.im_forward.proofs.Shapes.{lines_within}
 
 -- ---- lines that stay
 
@@ -134,51 +135,31 @@ straight_block free live x y h = record {
   lines = subst (λ e. ForwardsLines free live x.exit e [] x.lines.items y.lines.items) (sym h.exit) (straight_lines live x.exit free [] x.lines.items y.lines.items h.lines);
 }
 
-straight_blocks : (free : ℕ) (live : ℕ → ℕ → Bool) (xs ys : List Block) → StraightenBlocks live xs ys → ForwardsBlocks free live xs ys
-straight_blocks free live [] [] h = tt
-straight_blocks free live [] (y ∷ ys) h = absurd h
-straight_blocks free live (x ∷ xs) [] h = absurd h
-straight_blocks free live (x ∷ xs) (y ∷ ys) h = (straight_block free live x y h.0, straight_blocks free live xs ys h.1)
-
 -- what lives before a block's lines lives at its start
 abbrev pub IsClosed : (ℕ → ℕ → Bool) → List Block → Type 0
 IsClosed live blocks = (b : ℕ) (block : Block) (v : ℕ) → slice_get blocks b ≡ Some block → lives live block.lines.items block.exit v ≡ true → live b v ≡ true
 
-record OldBlock (live : ℕ → ℕ → Bool) (xs : List Block) (b : ℕ) (y : Block) : Type 0 where
-  block : Block
-  at : slice_get xs b ≡ Some block
-  same : Straightens live block y
-
-old_block : (live : ℕ → ℕ → Bool) (xs ys : List Block) → StraightenBlocks live xs ys → (b : ℕ) (y : Block) → slice_get ys b ≡ Some y → OldBlock live xs b y
-old_block live [] [] h b y e = cc
-old_block live [] (w ∷ ys) h b y e = absurd h
-old_block live (x ∷ xs) [] h b y e = absurd h
-old_block live (x ∷ xs) (w ∷ ys) h zero y e = (let same : w ≡ y = cc in record { block = x; at = refl; same = subst (Straightens live x) same h.0 })
-old_block live (x ∷ xs) (w ∷ ys) h (suc b) y e = (let k = old_block live xs ys h.1 b y e in record { block = k.block; at = k.at; same = k.same })
-
-pub closed_on : (live : ℕ → ℕ → Bool) (xs ys : List Block) → StraightenBlocks live xs ys → IsClosed live xs → IsClosed live ys
+pub closed_on : (live : ℕ → ℕ → Bool) (xs ys : List Block) → AllZip (Straightens live) xs ys → IsClosed live xs → IsClosed live ys
 closed_on live xs ys h closed b y v at e =
-    let k = old_block live xs ys h b y at in
-    let x = k.block in
-    let same : lives live y.lines.items x.exit v ≡ true = subst (λ (z : Exit). lives live y.lines.items z v ≡ true) k.same.exit e in
-    closed b x v k.at (lives_less live x.exit x.lines.items y.lines.items k.same.lines v same)
+    let k = zip_old (Straightens live) xs ys b y h at in
+    let same : lives live y.lines.items k.old.exit v ≡ true = subst (λ (z : Exit). lives live y.lines.items z v ≡ true) k.is.exit e in
+    closed b k.old v k.at (lives_less live k.old.exit k.old.lines.items y.lines.items k.is.lines v same)
 
 pub straight_once : (live : ℕ → ℕ → Bool) (f g : Function) → f.registers ≡ Virtual → IsClosed live f.blocks.items → AllStraighten live f g → ForwardsOnce f g
 straight_once live f g virtual closed h = record {
   live = live;
   closed = closed_on live f.blocks.items g.blocks.items h.blocks closed;
-  blocks = straight_blocks (first_free f) live f.blocks.items g.blocks.items h.blocks;
+  blocks = zip_so (Straightens live) (ForwardsBlock (first_free f) live) f.blocks.items g.blocks.items (λ b x y at k. straight_block (first_free f) live x y k) h.blocks;
   virtual = virtual;
   rest = h.rest;
 }
 
 -- a step that changes nothing
-same_blocks : (live : ℕ → ℕ → Bool) (xs : List Block) → StraightenBlocks live xs xs
-same_blocks live [] = tt
-same_blocks live (x ∷ xs) = (record { lines = all_stay live x.exit x.lines.items; exit = refl }, same_blocks live xs)
-
 pub once_same : (f : Function) → f.registers ≡ Virtual → ForwardsOnce f f
-once_same f virtual = straight_once (λ b v. true) f f virtual (λ b block v at e. refl) (record { blocks = same_blocks (λ b v. true) f.blocks.items; rest = refl })
+once_same f virtual = straight_once (λ b v. true) f f virtual (λ b block v at e. refl) (record {
+  blocks = zip_same (Straightens (λ b v. true)) (λ x. record { lines = all_stay (λ b v. true) x.exit x.lines.items; exit = refl }) f.blocks.items;
+  rest = refl;
+})
 
 -- ---- what lines and exits name is there
 
@@ -192,18 +173,9 @@ within_block n count live x y h w =
       there = subst (ExitThere count) (sym h.exit) w.there;
     }
 
-within_blocks : (n count : ℕ) (live : ℕ → ℕ → Bool) (xs ys : List Block) → StraightenBlocks live xs ys → All (IsWithin n count) xs → All (IsWithin n count) ys
-within_blocks n count live [] [] h w = All-nil (IsWithin n count)
-within_blocks n count live [] (y ∷ ys) h w = absurd h
-within_blocks n count live (x ∷ xs) [] h w = absurd h
-within_blocks n count live (x ∷ xs) (y ∷ ys) h w =
-    All-cons (IsWithin n count) y ys
-    (within_block n count live x y h.0 (All-head (IsWithin n count) x xs w))
-    (within_blocks n count live xs ys h.1 (All-tail (IsWithin n count) x xs w))
-
 pub straight_ready : (live : ℕ → ℕ → Bool) (f g : Function) → AllStraighten live f g → IsReady f → IsReady g
 straight_ready live f g h r =
-    let same : length g.blocks.items ≡ length f.blocks.items = blocks_length (first_free f) live f.blocks.items g.blocks.items (straight_blocks (first_free f) live f.blocks.items g.blocks.items h.blocks) in
+    let same : length g.blocks.items ≡ length f.blocks.items = zip_length (Straightens live) f.blocks.items g.blocks.items h.blocks in
     let count : g.register_count ≡ f.register_count = ap (λ (z : Function). z.register_count) h.rest in
     let parameters : g.parameters ≡ f.parameters = ap (λ (z : Function). z.parameters) h.rest in
     let first : g.first_parameter ≡ f.first_parameter = ap (λ (z : Function). z.first_parameter) h.rest in
@@ -213,7 +185,7 @@ straight_ready live f g h r =
       received = omega (arith, received, count, parameters, first);
       within = subst (λ n. All (IsWithin n (length g.blocks.items)) g.blocks.items) (sym count)
           (subst (λ n. All (IsWithin f.register_count n) g.blocks.items) (sym same)
-          (within_blocks f.register_count (length f.blocks.items) live f.blocks.items g.blocks.items h.blocks r.within));
+          (zip_each (Straightens live) (IsWithin f.register_count (length f.blocks.items)) (IsWithin f.register_count (length f.blocks.items)) (within_block f.register_count (length f.blocks.items) live) f.blocks.items g.blocks.items h.blocks r.within));
     }
 
 -- ---- line by line
@@ -261,19 +233,10 @@ none_yet live exit old rest h = h
 
 -- ---- block by block
 
-zip_straight : (live : ℕ → ℕ → Bool) (xs ys : List Block) → AllZip (Straightens live) xs ys → StraightenBlocks live xs ys
-zip_straight live [] [] h = tt
-zip_straight live [] (y ∷ ys) h = absurd h
-zip_straight live (x ∷ xs) [] h = absurd h
-zip_straight live (x ∷ xs) (y ∷ ys) h = (h.0, zip_straight live xs ys h.1)
-
-pub all_straight : (live : ℕ → ℕ → Bool) (f g : Function) → g ≡ record f { blocks = g.blocks } → AllZip (Straightens live) f.blocks.items g.blocks.items → AllStraighten live f g
-all_straight live f g rest h = record { blocks = zip_straight live f.blocks.items g.blocks.items h; rest = rest }
-
 -- the words of groups are those of the function still
 pub words_still : (live : ℕ → ℕ → Bool) (f g : Function) (groups words : List (Vec ℕ Global)) → words ≡ groups → AllStraighten live f g → HaveWords f.register_count (length f.blocks.items) groups → HaveWords g.register_count (length g.blocks.items) words
 words_still live f g groups words is h w =
-    let same : length g.blocks.items ≡ length f.blocks.items = blocks_length (first_free f) live f.blocks.items g.blocks.items (straight_blocks (first_free f) live f.blocks.items g.blocks.items h.blocks) in
+    let same : length g.blocks.items ≡ length f.blocks.items = zip_length (Straightens live) f.blocks.items g.blocks.items h.blocks in
     let count : g.register_count ≡ f.register_count = ap (λ (z : Function). z.register_count) h.rest in
     subst (HaveWords g.register_count (length g.blocks.items)) (sym is)
     (subst (λ n. HaveWords n (length g.blocks.items) groups) (sym count) (subst (λ n. HaveWords f.register_count n groups) (sym same) w))

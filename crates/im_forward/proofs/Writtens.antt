@@ -9,16 +9,16 @@ use Rattle.im_block.specs.declared.code.Exit.{Exit}
 use Rattle.im_block.specs.declared.code.Exit.TheVariants.{Jump, Turn, Branch, Return}
 use Rattle.im_block.specs.declared.code.Block.{Block}
 use Rattle.im_block.specs.declared.unit.Function.{Function}
+use Rattle.im_block.proofs.Unitwise.{Both, zip_at}
 use Rattle.im_alloc_placed.specs.Placeable.{first_free}
 use Rattle.im_alloc_relation.specs.Live.{place_uses, uses, sets, exit_lives, lives}
 use Rattle.im_alloc_relation.specs.Reads.{lives_in, reads_first, WritesFirst}
 use Rattle.im_block_live.proofs.Paths.{either, or_left, or_right, lives_more}
 use Rattle.im_forward.specs.Copies.{IsCopy, Copied, Further, Since, IsSame, Itself, CopyOf}
 use Rattle.im_forward.specs.Straight.{setting}
-use Rattle.im_forward.specs.Forward.{place_using, line_using, exit_using, ForwardsLines, Ends, Kept, LeftOut, Straight, ForwardsOnce}
+use Rattle.im_forward.specs.Forward.{place_using, line_using, exit_using, ForwardsLines, Ends, Kept, LeftOut, Straight, ForwardsBlock, ForwardsOnce}
 use Rattle.im_forward.proofs.Same.{both_true, both_are, itself, used_lives, kept_lives}
 use Rattle.im_forward.proofs.Setting.{sets_target, sets_setting, uses_setting, sets_passing, uses_passing}
-use Rattle.im_forward.proofs.Sims.{BothBlocks, both_blocks}
 
 -- it was copied before these lines, in its block
 record IsSource (before : List Line) (v : ℕ) : Type 0 where
@@ -200,7 +200,7 @@ module _ (f g : ℕ → ℕ → Bool) (live : ℕ → ℕ → Bool) (v : ℕ) (l
           ]
           )
 
-  block_read : (n : ℕ) (o q : Option Block) → BothBlocks n live o q → lives_in g q v ≡ true → lives_in f o v ≡ true
+  block_read : (n : ℕ) (o q : Option Block) → Both (ForwardsBlock n live) o q → lives_in g q v ≡ true → lives_in f o v ≡ true
   block_read n None None both h = absurd cc
   block_read n None (Some y) both h = absurd both
   block_read n (Some x) None both h = absurd both
@@ -229,7 +229,7 @@ module _ (old new : Function) (p : ForwardsOnce old new) where
   reads_less zero b v e = e
   reads_less (suc n) b v e =
       block_read (reads_first old.blocks.items n) (reads_first new.blocks.items n) p.live v (λ c h. reads_less n c v h) (λ c h. closed_reads n c v h) (first_free old) (slice_get old.blocks.items b) (slice_get new.blocks.items b)
-      (both_blocks (first_free old) p.live old.blocks.items new.blocks.items b p.blocks) e
+      (zip_at (ForwardsBlock (first_free old) p.live) old.blocks.items new.blocks.items b p.blocks) e
 
 pub written_once : (old new : Function) → ForwardsOnce old new → WritesFirst old → WritesFirst new
 written_once old new p h = record { each = λ n v e. one n v e }

@@ -2,6 +2,7 @@
 -- left out. Arguments of calls stay where they are, since they stand side by side. What a line computes goes straight to where
 -- it is kept.
 use Rattle.std.specs.Prelude.{◌≡◌, ◌≤◌, ◌⊎◌, ℕ, Bool, true, false, List, [], ◌∷◌, Some, None, slice_get}
+use Rattle.std.specs.List.{AllZip}
 use Rattle.im_block.specs.declared.code.Place.{Place}
 use Rattle.im_block.specs.declared.code.Place.TheVariants.{Static, Local, Through}
 use Rattle.im_block.specs.declared.code.Line.{Line}
@@ -12,6 +13,7 @@ use Rattle.im_block.specs.declared.code.Block.{Block}
 use Rattle.im_block.specs.declared.unit.Registers.TheVariants.{Virtual}
 use Rattle.im_block.specs.declared.unit.Function.{Function}
 use Rattle.im_block.specs.declared.unit.Unit.{Unit as Code}
+use Rattle.im_block.specs.Unitwise.{EachFunction}
 use Rattle.im_alloc_placed.specs.Placeable.{first_free}
 use Rattle.im_alloc_relation.specs.Live.{lives}
 use Rattle.im_forward.specs.Copies.{IsSame}
@@ -74,17 +76,11 @@ pub data ForwardsLines (free : ℕ) (live : ℕ → ℕ → Bool) (leaves leaves
 pub record ForwardsBlock (free : ℕ) (live : ℕ → ℕ → Bool) (old new : Block) : Type 0 where
   pub lines : ForwardsLines free live old.exit new.exit [] old.lines.items new.lines.items
 
-abbrev pub ForwardsBlocks : ℕ → (ℕ → ℕ → Bool) → List Block → List Block → Type 0
-ForwardsBlocks free live [] [] = Unit {0}
-ForwardsBlocks free live (x ∷ xs) (y ∷ ys) = ForwardsBlock free live x y × ForwardsBlocks free live xs ys
-ForwardsBlocks free live [] (y ∷ ys) = ⊥
-ForwardsBlocks free live (x ∷ xs) [] = ⊥
-
 -- one step. live b: what lives at the start of block b of the new code
 pub record ForwardsOnce (old new : Function) : Type 0 where
   pub live : ℕ → ℕ → Bool
   pub closed : (b : ℕ) (block : Block) (v : ℕ) → slice_get new.blocks.items b ≡ Some block → lives live block.lines.items block.exit v ≡ true → live b v ≡ true
-  pub blocks : ForwardsBlocks (first_free old) live old.blocks.items new.blocks.items
+  pub blocks : AllZip (ForwardsBlock (first_free old) live) old.blocks.items new.blocks.items
   pub virtual : old.registers ≡ Virtual
   pub rest : new ≡ record old { blocks = new.blocks }
 
@@ -94,11 +90,7 @@ pub data ForwardsFunction : Function → Function → Type 0 where
   Then : (old middle new : Function) → ForwardsOnce old middle → ForwardsFunction middle new → ForwardsFunction old new
 
 abbrev pub ForwardsFunctions : List Function → List Function → Type 0
-ForwardsFunctions [] [] = Unit {0}
-ForwardsFunctions (f ∷ fs) (g ∷ gs) = ForwardsFunction f g × ForwardsFunctions fs gs
-ForwardsFunctions [] (g ∷ gs) = ⊥
-ForwardsFunctions (f ∷ fs) [] = ⊥
+ForwardsFunctions old new = AllZip ForwardsFunction old new
 
-pub record Forwards (old new : Code) : Type 0 where
-  pub functions : ForwardsFunctions old.functions.items new.functions.items
-  pub rest : new ≡ record old { functions = new.functions }
+abbrev pub Forwards : Code → Code → Type 0
+Forwards old new = EachFunction ForwardsFunction old new

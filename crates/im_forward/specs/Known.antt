@@ -6,12 +6,13 @@ use Rattle.im_block.specs.declared.code.Exit.{Exit}
 use Rattle.im_block.specs.declared.code.Block.{Block}
 use Rattle.im_block.specs.declared.unit.Registers.TheVariants.{Virtual}
 use Rattle.im_block.specs.declared.unit.Function.{Function}
+use Rattle.im_block.specs.Unitwise.{EachBlock}
 use Rattle.im_alloc_placed.specs.Placeable.{first_free}
 use Rattle.im_alloc_relation.specs.Live.{lives}
 use Rattle.im_block_live.specs.Words.{has, AreWithin}
 use Rattle.im_forward.specs.declared.copies.Known.{Known}
 use Rattle.im_forward.specs.Copies.{IsCopy}
-use Rattle.im_forward.specs.Forward.{ForwardsBlock, ForwardsBlocks}
+use Rattle.im_forward.specs.Forward.{ForwardsBlock}
 
 -- the register to use in the place of one
 abbrev pub instead_of : List Known → ℕ → ℕ
@@ -45,9 +46,8 @@ PassesCopy free to from old new = Passes free (Copy to from) old new
 abbrev pub UsesSources : ℕ → Block → Block → Type 0
 UsesSources free old new = (live : ℕ → ℕ → Bool) → ForwardsBlock free live old new
 
-pub record AllUseSources (old new : Function) : Type 0 where
-  pub blocks : (live : ℕ → ℕ → Bool) → ForwardsBlocks (first_free old) live old.blocks.items new.blocks.items
-  pub rest : new ≡ record old { blocks = new.blocks }
+abbrev pub AllUseSources : Function → Function → Type 0
+AllUseSources old new = EachBlock (UsesSources (first_free old)) old new
 
 -- ---- then, copies that nothing uses are left out
 
@@ -85,15 +85,8 @@ AreOf live base starts = (b j : ℕ) → j < 32 → has (slice_index starts b) j
 abbrev pub LeavesOutGroup : ℕ → List ℕ → Block → Block → Type 0
 LeavesOutGroup base starts old new = (live : ℕ → ℕ → Bool) → AreOf live base starts → LeavesOut live old new
 
-abbrev pub LeaveOut : (ℕ → ℕ → Bool) → List Block → List Block → Type 0
-LeaveOut live [] [] = Unit {0}
-LeaveOut live (x ∷ xs) (y ∷ ys) = LeavesOut live x y × LeaveOut live xs ys
-LeaveOut live [] (y ∷ ys) = ⊥
-LeaveOut live (x ∷ xs) [] = ⊥
-
-pub record AllLeaveOut (live : ℕ → ℕ → Bool) (old new : Function) : Type 0 where
-  pub blocks : LeaveOut live old.blocks.items new.blocks.items
-  pub rest : new ≡ record old { blocks = new.blocks }
+abbrev pub AllLeaveOut : (ℕ → ℕ → Bool) → Function → Function → Type 0
+AllLeaveOut live old new = EachBlock (LeavesOut live) old new
 
 -- what a function of a unit has
 pub record IsReady (f : Function) : Type 0 where

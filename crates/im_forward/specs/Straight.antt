@@ -7,6 +7,7 @@ use Rattle.im_block.specs.declared.code.Line.TheVariants.{Put, PutNull, Copy, Co
 use Rattle.im_block.specs.declared.code.Exit.{Exit}
 use Rattle.im_block.specs.declared.code.Block.{Block}
 use Rattle.im_block.specs.declared.unit.Function.{Function}
+use Rattle.im_block.specs.Unitwise.{EachBlock}
 use Rattle.im_alloc_relation.specs.Live.{lives}
 
 -- the register that a line sets, where it may as well be another one: no call, whose result comes where the machine has it, and
@@ -86,12 +87,5 @@ pub record Straightens (live : ℕ → ℕ → Bool) (old new : Block) : Type 0 
   pub lines : StraightLines live old.exit old.lines.items new.lines.items
   pub exit : new.exit ≡ old.exit
 
-abbrev pub StraightenBlocks : (ℕ → ℕ → Bool) → List Block → List Block → Type 0
-StraightenBlocks live [] [] = Unit {0}
-StraightenBlocks live (x ∷ xs) (y ∷ ys) = Straightens live x y × StraightenBlocks live xs ys
-StraightenBlocks live [] (y ∷ ys) = ⊥
-StraightenBlocks live (x ∷ xs) [] = ⊥
-
-pub record AllStraighten (live : ℕ → ℕ → Bool) (old new : Function) : Type 0 where
-  pub blocks : StraightenBlocks live old.blocks.items new.blocks.items
-  pub rest : new ≡ record old { blocks = new.blocks }
+abbrev pub AllStraighten : (ℕ → ℕ → Bool) → Function → Function → Type 0
+AllStraighten live old new = EachBlock (Straightens live) old new

@@ -10,7 +10,8 @@ use Rattle.im_block.specs.declared.code.Line.TheVariants.{Put, PutNull, Copy, Co
 use Rattle.im_block.specs.declared.code.Block.{Block}
 use Rattle.im_block.specs.declared.unit.Function.{Function}
 use Rattle.im_block.specs.Shape.{sum_of, cost, exit_cost, block_cost, function_cost}
-use Rattle.im_promote.specs.Promote.{taken_into, read_as, write_as, home_of, promoted, PromotesBlock, PromotesBlocks, PromotesFunction}
+use Rattle.im_block.proofs.Unitwise.{zip_less}
+use Rattle.im_promote.specs.Promote.{taken_into, read_as, write_as, home_of, promoted, PromotesBlock, PromotesFunction}
 
 taken_cost : (kind : Kind) (r from : ℕ) → cost (taken_into kind r from) ≤ 12
 taken_cost I8 r from = omega arith
@@ -69,14 +70,5 @@ module _ (homes : ℕ → Option ℕ) where
       let exit : exit_cost y.exit ≡ exit_cost x.exit = ap exit_cost h.exit in
       omega (arith, a, same, exit)
 
-  all_blocks : (f : Function) (xs ys : List Block) → PromotesBlocks homes f xs ys → sum_of block_cost ys ≤ sum_of block_cost xs
-  all_blocks f [] [] h = omega arith
-  all_blocks f [] (y ∷ ys) h = absurd h
-  all_blocks f (x ∷ xs) [] h = absurd h
-  all_blocks f (x ∷ xs) (y ∷ ys) h =
-      let a = one_block f x y h.0 in
-      let b = all_blocks f xs ys h.1 in
-      omega (arith, a, b)
-
 pub costs : (homes : ℕ → Option ℕ) (old new : Function) → PromotesFunction homes old new → function_cost new ≤ function_cost old
-costs homes old new p = let a = all_blocks homes old old.blocks.items new.blocks.items p.blocks in omega (arith, a)
+costs homes old new p = let a = zip_less (PromotesBlock homes old) block_cost (one_block homes old) old.blocks.items new.blocks.items p.blocks in omega (arith, a)

@@ -1,5 +1,5 @@
 -- A function whose lines and objects are rewritten is promoted.
-use Rattle.std.proofs.Common.{◌≡◌, ℕ, suc, ◌+◌, ◌*◌, ◌<◌, ◌≤◌, Bool, true, false, List, [], ◌∷◌, Option, Some, None, refl, sym, ap, ◌∙◌, subst, arith, eq-eqb}
+use Rattle.std.proofs.Common.{◌≡◌, ℕ, ◌+◌, ◌*◌, ◌<◌, ◌≤◌, Bool, true, false, List, [], ◌∷◌, Option, Some, None, refl, sym, ap, ◌∙◌, subst, arith, eq-eqb}
 use Rattle.std.specs.Prelude.{slice_get, All, ◌==◌, ◌&&◌, not}
 use Rattle.std.specs.List.{AllZip}
 use Rattle.std.proofs.lemmas.List.Elements.{All-head, All-tail}
@@ -8,14 +8,14 @@ use Rattle.im_block.specs.declared.code.Place.{Place}
 use Rattle.im_block.specs.declared.code.Place.TheVariants.{Static, Local, Through}
 use Rattle.im_block.specs.declared.code.Line.{Line}
 use Rattle.im_block.specs.declared.code.Line.TheVariants.{Put, PutNull, Copy, Convert, Unary, Not, Compute, Compare, Move, Distance, Address, Read, Write, Reload, Spill, Cut, Call, Serve}
-use Rattle.im_block.specs.declared.code.Block.{Block}
 use Rattle.im_block.specs.declared.unit.Object.{Object}
 use Rattle.im_block.specs.declared.unit.Function.{Function}
 use Rattle.im_block.specs.Shape.{sum_of}
 use Rattle.im_block.specs.Wellformed.{LineWithin, IsBlock}
 use Rattle.im_alloc_placed.specs.Operands.{PlaceExists}
 use Rattle.im_alloc_placed.specs.Placeable.{IsPlaceableLine, object_room}
-use Rattle.im_promote.specs.Promote.{read_as, write_as, home_of, promoted, Owns, PlaceKept, PlaceFits, LineFits, LinesFit, PromotesBlocks, PromotesFunction}
+use Rattle.im_block.proofs.Unitwise.{zip_so, zip_same, all_at}
+use Rattle.im_promote.specs.Promote.{read_as, write_as, home_of, promoted, Owns, PlaceKept, PlaceFits, LineFits, LinesFit, PromotesBlock, PromotesFunction}
 use Rattle.im_promote.specs.Written.{names, WritesObjectsFirst}
 use Rattle.im_promote.specs.Words.{inside, breaks}
 use Rattle.im_promote.specs.Homes.{home_at, homes_from, Numbered, MayBeRegister, AreChosen, RewritesBlock, RewritesFunction, IsReady, IsPromotedFunction}
@@ -93,30 +93,19 @@ module _ (f g : Function) (own : List (Option ℕ)) (count : ℕ) (ready : IsRea
     lines_fit rest (All-tail (IsPlaceableLine ready.statics f) line rest h) (All-tail (LineWithin f.register_count) line rest w) (λ n r e. All-tail (λ (l : Line). breaks l n ≡ false) line rest (u n r e)),
   )
 
-  abbrev AreAble : List Block → Type 0
-  AreAble xs = (b : ℕ) (block : Block) → slice_get xs b ≡ Some block → All (IsPlaceableLine ready.statics f) block.lines.items
-
-  abbrev AreWhole : List Block → Type 0
-  AreWhole xs = (n r : ℕ) → homes n ≡ Some r → (b : ℕ) (block : Block) → slice_get xs b ≡ Some block → All (λ (line : Line). breaks line n ≡ false) block.lines.items
-
-  blocks_promoted : (xs ys : List Block) → AllZip (RewritesBlock homes) xs ys → All (IsBlock ready.functions f) xs → AreAble xs → AreWhole xs → PromotesBlocks homes f xs ys
-  blocks_promoted [] [] h w k u = tt
-  blocks_promoted [] (y ∷ ys) h w k u = absurd h
-  blocks_promoted (x ∷ xs) [] h w k u = absurd h
-  blocks_promoted (x ∷ xs) (y ∷ ys) h w k u =
-      let one = All-head (IsBlock ready.functions f) x xs w in (
-        record {
-          lines = h.0.lines;
-          exit = h.0.exit;
-          fits = lines_fit x.lines.items (k 0 x refl) one.lines_within (λ n r e. u n r e 0 x refl);
-          exit_within = one.exit_within;
-        },
-        blocks_promoted xs ys h.1 (All-tail (IsBlock ready.functions f) x xs w) (λ b block at. k (suc b) block at) (λ n r e b block at. u n r e (suc b) block at),
-      )
+  blocks_promoted : AllZip (PromotesBlock homes f) f.blocks.items g.blocks.items
+  blocks_promoted = zip_so (RewritesBlock homes) (PromotesBlock homes f) f.blocks.items g.blocks.items (λ b x y at h.
+      let one = all_at (IsBlock ready.functions f) f.blocks.items b x ready.formed.blocks at in
+      record {
+        lines = h.lines;
+        exit = h.exit;
+        fits = lines_fit x.lines.items (ready.placeable.lines b x at) one.lines_within (λ n r e. (may n r e).whole b x at);
+        exit_within = one.exit_within;
+      }) rewrites.blocks
 
   promotes : PromotesFunction homes f g
   promotes = record {
-    blocks = blocks_promoted f.blocks.items g.blocks.items rewrites.blocks ready.formed.blocks ready.placeable.lines (λ n r e. (may n r e).whole);
+    blocks = blocks_promoted;
     rest = rewrites.rest ∙ ap (λ (z : ℕ). record f { register_count = z; objects = g.objects; blocks = g.blocks }) (sym count_is);
     virtual = ready.placeable.registers;
     received = ready.formed.received;
@@ -199,9 +188,8 @@ module _ (f : Function) (ready : IsReady f) where
   line_stays (Serve to service None) = refl
   line_stays (Serve to service (Some from)) = refl
 
-  blocks_stay : (xs : List Block) → AllZip (RewritesBlock (homes_from f.first_object stays)) xs xs
-  blocks_stay [] = tt
-  blocks_stay (x ∷ xs) = (record { lines = sym (map_same (promoted (homes_from f.first_object stays)) line_stays x.lines.items); exit = refl }, blocks_stay xs)
+  blocks_stay : AllZip (RewritesBlock (homes_from f.first_object stays)) f.blocks.items f.blocks.items
+  blocks_stay = zip_same (RewritesBlock (homes_from f.first_object stays)) (λ x. record { lines = sym (map_same (promoted (homes_from f.first_object stays)) line_stays x.lines.items); exit = refl }) f.blocks.items
 
   pub stays_promoted : IsPromotedFunction f f
   stays_promoted = promoted_of f f stays f.register_count ready
@@ -210,7 +198,7 @@ module _ (f : Function) (ready : IsReady f) where
         numbered = none_numbered f.objects.items;
         may = λ k r e. (let a : home_at (slice_get stays k) ≡ Some r = ap home_at e in let b = no_homes_at f.objects.items k in cc);
       })
-      (record { blocks = blocks_stay f.blocks.items; objects = none_emptied f.objects.items; rest = refl })
+      (record { blocks = blocks_stay; objects = none_emptied f.objects.items; rest = refl })
       ready.placeable.room
     where
       none_numbered : (xs : List Object) → Numbered f.register_count (no_homes xs) f.register_count

@@ -1,55 +1,13 @@
--- One more element: of lists that are rewritten in place, and of lists that grow.
-use Rattle.std.proofs.Common.{◌≡◌, ℕ, zero, suc, ◌<◌, ◌≤◌, List, [], ◌∷◌, ◌++◌, Some, refl, ap, ◌∙◌, subst, arith, length, take, drop, get_or, length-drop}
+-- One more element: of lists that are mapped in place, and of lists that grow.
+use Rattle.std.proofs.Common.{◌≡◌, ℕ, zero, suc, ◌<◌, ◌≤◌, List, [], ◌∷◌, ◌++◌, Some, refl, ap, ◌∙◌, subst, arith, length, take, drop, get_or}
 use Rattle.std.specs.Prelude.{slice_get, slice_set, map, All}
-use Rattle.std.specs.List.{AllZip}
-use Rattle.std.proofs.lemmas.List.Elements.{All-cons, All-head, All-tail}
-
--- what holds of all holds of each
-pub all_at : {X : Type 0} (P : X → Type 0) (xs : List X) (i : ℕ) (x : X) → All P xs → slice_get xs i ≡ Some x → P x
-all_at P [] i x h e = cc
-all_at P (y ∷ ys) zero x h e = let same : y ≡ x = cc in subst P same (All-head P y ys h)
-all_at P (y ∷ ys) (suc i) x h e = all_at P ys i x (All-tail P y ys h) e
+use Rattle.std.proofs.lemmas.List.Elements.{All-cons}
 
 -- one element more from the end on
 pub all_from : {X : Type 0} (P : X → Type 0) (xs : List X) (i : ℕ) (x : X) → i < length xs → x ≡ get_or xs i x → P x → All P (drop (suc i) xs) → All P (drop i xs)
 all_from P [] i x lt e one h = absurd (omega arith)
 all_from P (y ∷ ys) zero x lt e one h = All-cons P y ys (subst P e one) h
 all_from P (y ∷ ys) (suc i) x lt e one h = all_from P ys i x (omega arith) e one h
-
--- an element that is as it was
-pub item_all : {X : Type 0} (P : X → Type 0) (xs ys : List X) (i : ℕ) (d : X) → i < length ys → drop i ys ≡ drop i xs → All P xs → P (get_or ys i d)
-item_all {X = X} P xs [] i d lt e a = absurd (omega arith)
-item_all {X = X} P [] (y ∷ ys) i d lt e a = absurd (omega (arith, ap length e, length-drop {A = X} i (y ∷ ys), length-drop {A = X} i []))
-item_all {X = X} P (x ∷ xs) (y ∷ ys) zero d lt e a = let one : x ≡ y = cc in subst P one (All-head P x xs a)
-item_all {X = X} P (x ∷ xs) (y ∷ ys) (suc i) d lt e a = item_all P xs ys i d (omega arith) e (All-tail P x xs a)
-
--- pairs of the old elements and the new ones so far, and the old ones that are left
-
-pub record ZipTo {X : Type 0} (R : X → X → Type 0) (j : ℕ) (xs ys : List X) : Type 0 where
-  pub done : AllZip R (take j xs) (take j ys)
-  pub left : drop j ys ≡ drop j xs
-
-pub zip_more : {X : Type 0} (R : X → X → Type 0) (i : ℕ) (xs ys : List X) (d y : X) → i < length ys → ZipTo R i xs ys → R (get_or ys i d) y → ZipTo R (suc i) xs (slice_set ys i y)
-zip_more R i xs [] d y lt h one = absurd (omega arith)
-zip_more R zero [] (b ∷ ys) d y lt h one = (let e = h.left in cc)
-zip_more R zero (a ∷ xs) (b ∷ ys) d y lt h one =
-    let e = h.left in
-    let same : b ≡ a = cc in
-    let rest : ys ≡ xs = cc in
-    record { done = (subst (λ z. R z y) same one, tt); left = rest }
-zip_more R (suc i) [] (b ∷ ys) d y lt h one = absurd h.done
-zip_more R (suc i) (a ∷ xs) (b ∷ ys) d y lt h one =
-    let m = zip_more R i xs ys d y (omega arith) (record { done = h.done.1; left = h.left }) one in
-    record { done = (h.done.0, m.done); left = m.left }
-
-pub zip_all : {X : Type 0} (R : X → X → Type 0) (i : ℕ) (xs ys : List X) → length ys ≤ i → ZipTo R i xs ys → AllZip R xs ys
-zip_all R i [] [] le h = tt
-zip_all R zero [] (y ∷ ys) le h = absurd (omega arith)
-zip_all R (suc i) [] (y ∷ ys) le h = absurd h.done
-zip_all R zero (x ∷ xs) [] le h = absurd (let e = h.left in cc)
-zip_all R (suc i) (x ∷ xs) [] le h = absurd h.done
-zip_all R zero (x ∷ xs) (y ∷ ys) le h = absurd (omega arith)
-zip_all R (suc i) (x ∷ xs) (y ∷ ys) le h = (h.done.0, zip_all R i xs ys (omega arith) (record { done = h.done.1; left = h.left }))
 
 -- elements that are mapped in place
 

@@ -1,5 +1,5 @@
 -- Promoted code is placeable.
-use Rattle.std.proofs.Common.{◌≡◌, ℕ, ◌+◌, ◌≤◌, List, [], ◌∷◌, Option, Some, None, refl, sym, ap, ◌∙◌, subst, arith, length}
+use Rattle.std.proofs.Common.{◌≡◌, ℕ, ◌≤◌, List, [], ◌∷◌, Option, Some, None, refl, sym, ap, ◌∙◌, subst, arith, length}
 use Rattle.std.specs.Prelude.{slice_get, map, All}
 use Rattle.std.proofs.lemmas.List.Elements.{All-nil, All-cons, All-head, All-tail}
 use Rattle.im_num.specs.declared.kind.Kind.{Kind}
@@ -13,11 +13,10 @@ use Rattle.im_block.specs.declared.unit.Function.{Function}
 use Rattle.im_block.specs.declared.unit.Unit.{Unit as Code}
 use Rattle.im_block.specs.Paths.{IsEdge}
 use Rattle.im_alloc_placed.specs.Operands.{PlaceExists}
-use Rattle.im_alloc_placed.specs.Placeable.{IsPlaceableLine, LineFrom, ExitFrom, Receives, first_free, HasRoom, IsPlaceableFunction, IsPlaceable}
-use Rattle.im_promote.specs.Promoted.{IsPromoted}
+use Rattle.im_alloc_placed.specs.Placeable.{IsPlaceableLine, LineFrom, ExitFrom, Receives, first_free, HasRoom, IsPlaceableFunction}
+use Rattle.im_block.proofs.Unitwise.{Old, zip_old}
 use Rattle.im_promote.specs.Laws.{PlaceableLaw}
 use Rattle.im_promote.specs.Promote.{taken_into, read_as, write_as, home_of, promoted, PlaceFits, LineFits, LinesFit, PromotesBlock, PromotesFunction, PromotesFunctions}
-use Rattle.im_promote.proofs.Sims.{BothBlocks, both_blocks}
 
 taken_able : (statics : ℕ) (f : Function) (kind : Kind) (r from : ℕ) → IsPlaceableLine statics f (taken_into kind r from)
 taken_able statics f I8 r from = λ e. cc
@@ -180,20 +179,8 @@ module _ (statics : ℕ) (homes : ℕ → Option ℕ) (f g : Function) (p : Prom
   lines_receive (Serve to service None ∷ rest) h w = lines_from (Serve to service None ∷ rest) h w
   lines_receive (Serve to service (Some from) ∷ rest) h w = lines_from (Serve to service (Some from) ∷ rest) h w
 
--- the old block of a new one
-pub record Old (homes : ℕ → Option ℕ) (f : Function) (b : ℕ) (y : Block) : Type 0 where
-  pub block : Block
-  pub at : slice_get f.blocks.items b ≡ Some block
-  pub same : PromotesBlock homes f block y
-
-old_of : (homes : ℕ → Option ℕ) (f g : Function) (b : ℕ) (y : Block) → PromotesFunction homes f g → slice_get g.blocks.items b ≡ Some y → Old homes f b y
-old_of homes f g b y p at = one (slice_get f.blocks.items b) (slice_get g.blocks.items b) refl at (both_blocks homes f f.blocks.items g.blocks.items b p.blocks)
-  where
-    one : (x z : Option Block) → slice_get f.blocks.items b ≡ x → z ≡ Some y → BothBlocks homes f x z → Old homes f b y
-    one None None e e' h = cc
-    one None (Some z) e e' h = absurd h
-    one (Some x) None e e' h = cc
-    one (Some x) (Some z) e e' h = let same : z ≡ y = cc in record { block = x; at = e; same = subst (PromotesBlock homes f x) same h }
+old_of : (homes : ℕ → Option ℕ) (f g : Function) (b : ℕ) (y : Block) → PromotesFunction homes f g → slice_get g.blocks.items b ≡ Some y → Old (PromotesBlock homes f) f.blocks.items b y
+old_of homes f g b y p at = zip_old (PromotesBlock homes f) f.blocks.items g.blocks.items b y p.blocks at
 
 placeable : (statics : ℕ) (homes : ℕ → Option ℕ) (f g : Function) → PromotesFunction homes f g → HasRoom g → IsPlaceableFunction statics f → IsPlaceableFunction statics g
 placeable statics homes f g p room h =
@@ -209,21 +196,21 @@ placeable statics homes f g p room h =
       room = room;
       lines = λ b y at.
           let o = old_of homes f g b y p at in
-          subst (All (IsPlaceableLine statics g)) (sym o.same.lines) (lines_able statics homes f g p (first_free f) free o.block.lines.items (h.lines b o.block o.at));
+          subst (All (IsPlaceableLine statics g)) (sym o.is.lines) (lines_able statics homes f g p (first_free f) free o.old.lines.items (h.lines b o.old o.at));
       others = λ b y at other.
           let o = old_of homes f g b y p at in
-          subst (λ n. All (LineFrom n) y.lines.items) (sym none) (subst (All (LineFrom (first_free f))) (sym o.same.lines)
-          (lines_from statics homes f g p (first_free f) free o.block.lines.items o.same.fits (h.others b o.block o.at (λ e. other (e ∙ sym entry)))));
+          subst (λ n. All (LineFrom n) y.lines.items) (sym none) (subst (All (LineFrom (first_free f))) (sym o.is.lines)
+          (lines_from statics homes f g p (first_free f) free o.old.lines.items o.is.fits (h.others b o.old o.at (λ e. other (e ∙ sym entry)))));
       entry = λ y at.
           let o = old_of homes f g g.entry y p at in
-          subst (λ n. Receives n y.lines.items) (sym none) (subst (Receives (first_free f)) (sym o.same.lines)
-          (lines_receive statics homes f g p (first_free f) free o.block.lines.items o.same.fits (h.entry o.block (subst (λ b. slice_get f.blocks.items b ≡ Some o.block) entry o.at))));
+          subst (λ n. Receives n y.lines.items) (sym none) (subst (Receives (first_free f)) (sym o.is.lines)
+          (lines_receive statics homes f g p (first_free f) free o.old.lines.items o.is.fits (h.entry o.old (subst (λ b. slice_get f.blocks.items b ≡ Some o.old) entry o.at))));
       exits = λ b y at.
           let o = old_of homes f g b y p at in
-          subst (λ n. ExitFrom n y.exit) (sym none) (subst (ExitFrom (first_free f)) (sym o.same.exit) (h.exits b o.block o.at));
+          subst (λ n. ExitFrom n y.exit) (sym none) (subst (ExitFrom (first_free f)) (sym o.is.exit) (h.exits b o.old o.at));
       no_return = λ b y at edge.
           let o = old_of homes f g b y p at in
-          parameters ∙ h.no_return b o.block o.at (subst (IsEdge o.block.exit) entry (subst (λ x. IsEdge x g.entry) o.same.exit edge));
+          parameters ∙ h.no_return b o.old o.at (subst (IsEdge o.old.exit) entry (subst (λ x. IsEdge x g.entry) o.is.exit edge));
     }
 
 -- whole units

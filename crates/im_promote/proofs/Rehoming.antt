@@ -1,5 +1,5 @@
 -- What is promoted with one map of homes is promoted with any that says the same of its own objects, and nothing of statics.
-use Rattle.std.proofs.Common.{◌≡◌, inl, inr, ℕ, suc, ◌+◌, ◌<◌, List, [], ◌∷◌, Option, Some, None, refl, sym, ap, ◌∙◌, arith, length}
+use Rattle.std.proofs.Common.{◌≡◌, inl, inr, ℕ, ◌+◌, ◌<◌, List, [], ◌∷◌, Option, Some, None, refl, sym, ap, ◌∙◌, arith, length}
 use Rattle.std.specs.Prelude.{slice_get, map, All}
 use Rattle.std.proofs.lemmas.List.Elements.{All-head, All-tail}
 use Rattle.std.proofs.lemmas.Option.{slice_get_within, slice_get_past}
@@ -12,7 +12,8 @@ use Rattle.im_block.specs.declared.code.Block.{Block}
 use Rattle.im_block.specs.declared.unit.Function.{Function}
 use Rattle.im_alloc_placed.specs.Operands.{PlaceExists}
 use Rattle.im_alloc_placed.specs.Placeable.{IsPlaceableLine}
-use Rattle.im_promote.specs.Promote.{read_as, write_as, home_of, promoted, Owns, PlaceKept, PlaceFits, LineFits, LinesFit, PromotesBlock, PromotesBlocks, PromotesFunction}
+use Rattle.im_block.proofs.Unitwise.{zip_so}
+use Rattle.im_promote.specs.Promote.{read_as, write_as, home_of, promoted, Owns, PlaceKept, PlaceFits, LineFits, LinesFit, PromotesBlock, PromotesFunction}
 use Rattle.im_promote.specs.Written.{WritesObjectsFirst}
 
 module _ (h k : ℕ → Option ℕ) (statics : ℕ) (f : Function) (same : (n : ℕ) → Owns f n → k n ≡ h n) (none : (n : ℕ) → n < statics → k n ≡ None) where
@@ -94,18 +95,12 @@ module _ (h k : ℕ → Option ℕ) (statics : ℕ) (f : Function) (same : (n : 
     exit_within = p.exit_within;
   }
 
-  blocks_again : (xs ys : List Block) → ((b : ℕ) (block : Block) → slice_get xs b ≡ Some block → All (IsPlaceableLine statics f) block.lines.items) → PromotesBlocks h f xs ys → PromotesBlocks k f xs ys
-  blocks_again [] [] e p = tt
-  blocks_again [] (y ∷ ys) e p = absurd p
-  blocks_again (x ∷ xs) [] e p = absurd p
-  blocks_again (x ∷ xs) (y ∷ ys) e p = (block_again x y (e 0 x refl) p.0, blocks_again xs ys (λ b block at. e (suc b) block at) p.1)
-
   owns : (i : ℕ) → i < length f.objects.items → Owns f (f.first_object + i)
   owns i lt = (omega arith, omega arith)
 
   pub function_again : (g : Function) → ((b : ℕ) (block : Block) → slice_get f.blocks.items b ≡ Some block → All (IsPlaceableLine statics f) block.lines.items) → PromotesFunction h f g → PromotesFunction k f g
   function_again g e p = record {
-    blocks = blocks_again f.blocks.items g.blocks.items e p.blocks;
+    blocks = zip_so (PromotesBlock h f) (PromotesBlock k f) f.blocks.items g.blocks.items (λ b x y at q. block_again x y (e b x at) q) p.blocks;
     rest = p.rest;
     virtual = p.virtual;
     received = p.received;

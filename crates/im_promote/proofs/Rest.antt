@@ -1,21 +1,20 @@
 -- What else is kept: statics, what frames may need, code without cuts; and the cost of a whole unit.
-use Rattle.std.proofs.Common.{◌≡◌, ℕ, ◌≤◌, List, [], ◌∷◌, Option, Some, None, refl, sym, ap, ◌∙◌, subst, arith}
-use Rattle.std.specs.Prelude.{map, slice_get, All}
+use Rattle.std.proofs.Common.{ℕ, List, [], ◌∷◌, Option, Some, None, sym, ap, subst}
+use Rattle.std.specs.Prelude.{map, All}
 use Rattle.std.proofs.lemmas.List.Elements.{All-nil, All-cons, All-head, All-tail}
 use Rattle.im_num.specs.declared.kind.Kind.{Kind}
 use Rattle.im_num.specs.declared.kind.Kind.TheVariants.{I8, U8, I16, U16, I32, U32, Ptr}
 use Rattle.im_block.specs.declared.code.Place.{Place}
 use Rattle.im_block.specs.declared.code.Line.{Line}
 use Rattle.im_block.specs.declared.code.Line.TheVariants.{Put, PutNull, Copy, Convert, Unary, Not, Compute, Compare, Move, Distance, Address, Read, Write, Reload, Spill, Cut, Call, Serve}
-use Rattle.im_block.specs.declared.code.Block.{Block}
 use Rattle.im_block.specs.declared.unit.Function.{Function}
 use Rattle.im_block.specs.declared.unit.Unit.{Unit as Code}
 use Rattle.im_block.specs.Meaning.{statics_of}
-use Rattle.im_block.specs.Shape.{sum_of, function_cost}
+use Rattle.im_block.specs.Shape.{function_cost}
 use Rattle.im_alloc_placed.specs.Apart.{IsNoCut, AllUncut}
+use Rattle.im_block.proofs.Unitwise.{zip_old, zip_map, zip_less}
 use Rattle.im_promote.specs.Laws.{RestLaw}
-use Rattle.im_promote.specs.Promote.{taken_into, read_as, write_as, home_of, promoted, PromotesFunctions, Promotes}
-use Rattle.im_promote.proofs.Sims.{BothBlocks, both_blocks, BothFunctions, both_functions}
+use Rattle.im_promote.specs.Promote.{taken_into, read_as, write_as, home_of, promoted, PromotesBlock, PromotesFunction, Promotes}
 use Rattle.im_promote.proofs.Costing.{costs}
 
 -- code without cuts
@@ -66,46 +65,16 @@ lines_uncut homes (line ∷ rest) h =
 
 uncut : (old new : Code) → Promotes old new → AllUncut old → AllUncut new
 uncut old new p h = record {
-  each = λ i g b y at there. in_function i g b y (slice_get old.functions.items i) (slice_get new.functions.items i) (both_functions p.homes old.functions.items new.functions.items i p.functions) refl at there;
+  each = λ i g b y at there.
+      let f = zip_old (PromotesFunction p.homes) old.functions.items new.functions.items i g p.functions at in
+      let x = zip_old (PromotesBlock p.homes f.old) f.old.blocks.items g.blocks.items b y f.is.blocks there in
+      subst (All IsNoCut) (sym x.is.lines) (lines_uncut p.homes x.old.lines.items (h.each i f.old b x.old f.at x.at));
 }
-  where
-    in_block : (i : ℕ) (f : Function) (b : ℕ) (y : Block) (o o' : Option Block) → BothBlocks p.homes f o o' → slice_get old.functions.items i ≡ Some f → o ≡ slice_get f.blocks.items b → o' ≡ Some y → All IsNoCut y.lines.items
-    in_block i f b y None None both at there is = cc
-    in_block i f b y None (Some z) both at there is = absurd both
-    in_block i f b y (Some x) None both at there is = absurd both
-    in_block i f b y (Some x) (Some z) both at there is =
-        let same : z ≡ y = cc in
-        let lines : y.lines.items ≡ map (promoted p.homes) x.lines.items = ap (λ (q : Block). q.lines.items) (sym same) ∙ both.lines in
-        subst (All IsNoCut) (sym lines) (lines_uncut p.homes x.lines.items (h.each i f b x at (sym there)))
-
-    in_function : (i : ℕ) (g : Function) (b : ℕ) (y : Block) (o o' : Option Function) → BothFunctions p.homes o o' → o ≡ slice_get old.functions.items i → o' ≡ Some g → slice_get g.blocks.items b ≡ Some y → All IsNoCut y.lines.items
-    in_function i g b y None None both at is there = cc
-    in_function i g b y None (Some k) both at is there = absurd both
-    in_function i g b y (Some f) None both at is there = absurd both
-    in_function i g b y (Some f) (Some k) both at is there =
-        let same : k ≡ g = cc in
-        let there' : slice_get k.blocks.items b ≡ Some y = subst (λ (q : Function). slice_get q.blocks.items b ≡ Some y) (sym same) there in
-        in_block i f b y (slice_get f.blocks.items b) (slice_get k.blocks.items b) (both_blocks p.homes f f.blocks.items k.blocks.items b both.blocks) (sym at) refl there'
-
--- what frames may need, and what all costs
-
-needs : (homes : ℕ → Option ℕ) (fs gs : List Function) → PromotesFunctions homes fs gs → map (λ (f : Function). f.need) gs ≡ map (λ (f : Function). f.need) fs
-needs homes [] [] h = refl
-needs homes [] (g ∷ gs) h = absurd h
-needs homes (f ∷ fs) [] h = absurd h
-needs homes (f ∷ fs) (g ∷ gs) h =
-    ap (λ n. n ∷ map (λ (k : Function). k.need) gs) (ap (λ (k : Function). k.need) h.0.rest) ∙ ap (λ ns. f.need ∷ ns) (needs homes fs gs h.1)
-
-total_cost : (homes : ℕ → Option ℕ) (fs gs : List Function) → PromotesFunctions homes fs gs → sum_of function_cost gs ≤ sum_of function_cost fs
-total_cost homes [] [] h = omega arith
-total_cost homes [] (g ∷ gs) h = absurd h
-total_cost homes (f ∷ fs) [] h = absurd h
-total_cost homes (f ∷ fs) (g ∷ gs) h = let a = costs homes f g h.0 in let b = total_cost homes fs gs h.1 in omega (arith, a, b)
 
 pub rest : RestLaw
 rest = record {
   statics = λ old new p. ap (λ (u : Code). statics_of u) p.rest;
-  needs = λ old new p. needs p.homes old.functions.items new.functions.items p.functions;
+  needs = λ old new p. zip_map (PromotesFunction p.homes) (λ (f : Function). f.need) (λ f g k. ap (λ (z : Function). z.need) k.rest) old.functions.items new.functions.items p.functions;
   uncut = uncut;
-  cost = λ old new p. total_cost p.homes old.functions.items new.functions.items p.functions;
+  cost = λ old new p. zip_less (PromotesFunction p.homes) function_cost (costs p.homes) old.functions.items new.functions.items p.functions;
 }

@@ -10,7 +10,8 @@ use Rattle.im_block.specs.Wellformed.{ExitThere, IsBlock}
 use Rattle.im_promote.specs.Words.{has, starts_have, AreClosed, AreLinked, breaks}
 use Rattle.im_promote.specs.Homes.{MayBeRegister, IsReady}
 use Rattle.im_promote.proofs.Bits.{has_or, not_true, or_first, or_second, must_be_false}
-use Rattle.im_promote.proofs.Lists.{all_at, all_from}
+use Rattle.im_block.proofs.Unitwise.{all_at}
+use Rattle.im_promote.proofs.Lists.{all_from}
 
 pub linked : (f : Function) → IsReady f → AreLinked f.blocks.items
 linked f ready =

@@ -15,6 +15,7 @@ use Rattle.im_block.specs.declared.unit.Unit.{Unit as Code}
 use Rattle.im_block.specs.Shape.{sum_of}
 use Rattle.im_block.specs.Wellformed.{HasBytes, Suits, IsStatic, IsFunction, IsWellFormed}
 use Rattle.im_alloc_placed.specs.Placeable.{HasRoom, IsPlaceableFunction, IsPlaceable}
+use Rattle.im_block.proofs.Unitwise.{zip_each}
 use Rattle.im_promote.specs.Promote.{Owns, PromotesFunctions, ConstantFits, ConstantsFit, StaticsFit}
 use Rattle.im_promote.specs.Written.{WritesObjectsFirst}
 use Rattle.im_promote.specs.Promoted.{IsPromoted}
@@ -110,12 +111,6 @@ module _ (homes : ℕ → Option ℕ) (statics : ℕ) (none : (n : ℕ) → n < 
       subst (WritesObjectsFirst homes) same (first_again (homes_from x.first_object p.0.own) homes statics x (of_own x fs g gs p start k s) none p.0.first)
   functions_first (x ∷ fs) (g ∷ gs) p start k s (suc i) f at = functions_first fs gs p.1 (start + length x.objects.items) k.1 (of_rest x fs g gs p start k s) i f at
 
-functions_room : (fs gs : List Function) → AllZip IsPromotedFunction fs gs → All HasRoom gs
-functions_room [] [] p = All-nil HasRoom
-functions_room [] (g ∷ gs) p = absurd p
-functions_room (f ∷ fs) [] p = absurd p
-functions_room (f ∷ fs) (g ∷ gs) p = All-cons HasRoom g gs p.0.room (functions_room fs gs p.1)
-
 -- statics point to statics
 
 has_bytes : (statics : List StaticOf) (object offset : ℕ) → HasBytes (slice_get statics object) offset → object < length statics
@@ -160,5 +155,5 @@ unit_promoted u v w k rest p =
         values = statics_fit homes u.statics.items none u.statics.items w.statics;
       };
       first = functions_first homes statics none u.functions.items v.functions.items p statics from (λ n le. refl);
-      room = functions_room u.functions.items v.functions.items p;
+      room = zip_each IsPromotedFunction (IsFunction u.functions.items) HasRoom (λ f g one k. one.room) u.functions.items v.functions.items p w.functions;
     }

@@ -13,12 +13,13 @@ use Rattle.im_block.specs.declared.code.Exit.TheVariants.{Jump, Turn, Branch, Re
 use Rattle.im_block.specs.declared.code.Block.{Block}
 use Rattle.im_block.specs.declared.unit.Function.{Function}
 use Rattle.im_block.specs.Wellformed.{PlaceWithin, LineWithin, ExitWithin}
-use Rattle.im_promote.specs.Promote.{taken_into, read_as, write_as, home_of, promoted, Owns, PlaceFits, LineFits, LinesFit, PromotesFunction}
+use Rattle.im_block.proofs.Unitwise.{Both, zip_at}
+use Rattle.im_promote.specs.Promote.{taken_into, read_as, write_as, home_of, promoted, Owns, PlaceFits, LineFits, LinesFit, PromotesBlock, PromotesFunction}
 use Rattle.im_alloc_relation.specs.Live.{place_uses, uses, sets, exit_lives, lives}
 use Rattle.im_alloc_relation.specs.Reads.{lives_in, reads_first, WritesFirst}
 use Rattle.im_promote.specs.Written.{names, reads_object, writes_object, exit_objects, object_lives, IsWrittenFirst, WritesObjectsFirst}
 use Rattle.im_promote.proofs.Alikes.{false_or, both}
-use Rattle.im_promote.proofs.Sims.{BothBlocks, both_blocks, some_is}
+use Rattle.im_promote.proofs.Sims.{some_is}
 
 apart : (a b : ℕ) → (a ≡ b → ⊥) → (a == b) ≡ false
 apart a b h = false_or (a == b) (λ e. h (eqb-true a b e))
@@ -165,7 +166,7 @@ module _ (homes : ℕ → Option ℕ) (old new : Function) (p : PromotesFunction
         ∙ ap (λ z. uses line v || (not z && lives a (map (promoted homes) rest) exit v)) t.1
         ∙ ap (λ z. uses line v || (not (sets line v) && z)) (lines_low a b rest exit h.1 e)
 
-    block_low : (a b : ℕ → ℕ → Bool) (x y : Option Block) → BothBlocks homes old x y → ((c : ℕ) → a c v ≡ b c v) → lives_in a y v ≡ lives_in b x v
+    block_low : (a b : ℕ → ℕ → Bool) (x y : Option Block) → Both (PromotesBlock homes old) x y → ((c : ℕ) → a c v ≡ b c v) → lives_in a y v ≡ lives_in b x v
     block_low a b None None h e = refl
     block_low a b None (Some y) h e = absurd h
     block_low a b (Some x) None h e = absurd h
@@ -174,7 +175,7 @@ module _ (homes : ℕ → Option ℕ) (old new : Function) (p : PromotesFunction
 
     first_low : (n b : ℕ) → reads_first new.blocks.items n b v ≡ reads_first old.blocks.items n b v
     first_low zero b = refl
-    first_low (suc n) b = block_low (reads_first new.blocks.items n) (reads_first old.blocks.items n) (slice_get old.blocks.items b) (slice_get new.blocks.items b) (both_blocks homes old old.blocks.items new.blocks.items b p.blocks) (first_low n)
+    first_low (suc n) b = block_low (reads_first new.blocks.items n) (reads_first old.blocks.items n) (slice_get old.blocks.items b) (slice_get new.blocks.items b) (zip_at (PromotesBlock homes old) old.blocks.items new.blocks.items b p.blocks) (first_low n)
 
   -- registers of promoted objects: the new lines use and set them where the old ones read and write the object
 
@@ -259,7 +260,7 @@ module _ (homes : ℕ → Option ℕ) (old new : Function) (p : PromotesFunction
           by_parts false false r false true r' i j f e = cc
           by_parts false false r false false r' i j f e = f e
 
-    block_high : (k : IsWrittenFirst old m) (n b : ℕ) (x y : Option Block) → ((c : ℕ) → reads_first new.blocks.items n c v ≡ true → k.live c ≡ true) → slice_get old.blocks.items b ≡ x → BothBlocks homes old x y → lives_in (reads_first new.blocks.items n) y v ≡ true → k.live b ≡ true
+    block_high : (k : IsWrittenFirst old m) (n b : ℕ) (x y : Option Block) → ((c : ℕ) → reads_first new.blocks.items n c v ≡ true → k.live c ≡ true) → slice_get old.blocks.items b ≡ x → Both (PromotesBlock homes old) x y → lives_in (reads_first new.blocks.items n) y v ≡ true → k.live b ≡ true
     block_high k n b None None below at h e = cc
     block_high k n b None (Some y) below at h e = absurd h
     block_high k n b (Some x) None below at h e = absurd h
@@ -270,7 +271,7 @@ module _ (homes : ℕ → Option ℕ) (old new : Function) (p : PromotesFunction
 
     first_high : (k : IsWrittenFirst old m) (n b : ℕ) → reads_first new.blocks.items n b v ≡ true → k.live b ≡ true
     first_high k zero b e = cc
-    first_high k (suc n) b e = block_high k n b (slice_get old.blocks.items b) (slice_get new.blocks.items b) (first_high k n) refl (both_blocks homes old old.blocks.items new.blocks.items b p.blocks) e
+    first_high k (suc n) b e = block_high k n b (slice_get old.blocks.items b) (slice_get new.blocks.items b) (first_high k n) refl (zip_at (PromotesBlock homes old) old.blocks.items new.blocks.items b p.blocks) e
 
   -- further registers are used by no line
 
@@ -317,7 +318,7 @@ module _ (homes : ℕ → Option ℕ) (old new : Function) (p : PromotesFunction
     lines_none a [] exit h w e = exit_none a exit w e
     lines_none a (line ∷ rest) exit h w e = or_false (uses (promoted homes line) v) _ (line_none line h.0.0 h.0.1) (and_false (not (sets (promoted homes line) v)) (lives a (map (promoted homes) rest) exit v) (lines_none a rest exit h.1 w e))
 
-    block_none : (a : ℕ → ℕ → Bool) (x y : Option Block) → BothBlocks homes old x y → ((c : ℕ) → a c v ≡ false) → lives_in a y v ≡ false
+    block_none : (a : ℕ → ℕ → Bool) (x y : Option Block) → Both (PromotesBlock homes old) x y → ((c : ℕ) → a c v ≡ false) → lives_in a y v ≡ false
     block_none a None None h e = refl
     block_none a None (Some y) h e = absurd h
     block_none a (Some x) None h e = absurd h
@@ -326,7 +327,7 @@ module _ (homes : ℕ → Option ℕ) (old new : Function) (p : PromotesFunction
 
     first_none : (n b : ℕ) → reads_first new.blocks.items n b v ≡ false
     first_none zero b = refl
-    first_none (suc n) b = block_none (reads_first new.blocks.items n) (slice_get old.blocks.items b) (slice_get new.blocks.items b) (both_blocks homes old old.blocks.items new.blocks.items b p.blocks) (first_none n)
+    first_none (suc n) b = block_none (reads_first new.blocks.items n) (slice_get old.blocks.items b) (slice_get new.blocks.items b) (zip_at (PromotesBlock homes old) old.blocks.items new.blocks.items b p.blocks) (first_none n)
 
   -- whose register it is
 

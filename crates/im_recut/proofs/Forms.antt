@@ -10,7 +10,8 @@ use Rattle.im_block.specs.declared.unit.Function.{Function}
 use Rattle.im_block.specs.Paths.{IsCut}
 use Rattle.im_block.specs.Shape.{Descends, IsOrdered}
 use Rattle.im_block.specs.Forced.{EndsWithCut, CutAtTurn}
-use Rattle.im_block.specs.Uncut.{WithCuts, Empty, Same, Added, SameBlocks, SameFunction}
+use Rattle.im_block.specs.Uncut.{WithCuts, Empty, Same, Added, SameBlock, SameFunction}
+use Rattle.im_block.proofs.Unitwise.{zip_same, zip_then}
 use Rattle.im_cut_gap.specs.Laws.{GapSameLaw}
 use Rattle.im_cut_gap.proofs.Further.{twin}
 use Rattle.im_recut.specs.Recut.{cost_limit, GapsTo}
@@ -21,12 +22,8 @@ lines_same : (lines : List Line) → WithCuts lines lines
 lines_same [] = Empty
 lines_same (line ∷ lines) = Same line lines lines (lines_same lines)
 
-blocks_same : (blocks : List Block) → SameBlocks blocks blocks
-blocks_same [] = tt
-blocks_same (b ∷ bs) = (record { lines = lines_same b.lines.items; exit = refl }, blocks_same bs)
-
 function_same : (f : Function) → SameFunction f f
-function_same f = record { blocks = blocks_same f.blocks.items; rest = refl }
+function_same f = record { blocks = zip_same SameBlock (λ b. record { lines = lines_same b.lines.items; exit = refl }) f.blocks.items; rest = refl }
 
 pub gaps_same : GapSameLaw → (max_gap : Option ℕ) (old new : Function) → GapsTo max_gap old new → SameFunction old new
 gaps_same law None old new h = subst (SameFunction old) (sym h) (function_same old)
@@ -50,18 +47,12 @@ lines_twice a b c h (Same line x y k) = under (λ i g. lines_twice i x y g k) a 
         let tail : j ≡ x = cc in
         subst (λ (t : Line). WithCuts p (t ∷ y)) head (Added cause p y (again p (subst (WithCuts p) tail g)))
 
-blocks_twice : (xs ys zs : List Block) → SameBlocks xs ys → SameBlocks ys zs → SameBlocks xs zs
-blocks_twice [] [] [] h k = tt
-blocks_twice [] [] (z ∷ zs) h k = absurd k
-blocks_twice [] (y ∷ ys) zs h k = absurd h
-blocks_twice (x ∷ xs) [] zs h k = absurd h
-blocks_twice (x ∷ xs) (y ∷ ys) [] h k = absurd k
-blocks_twice (x ∷ xs) (y ∷ ys) (z ∷ zs) h k =
-    (record { lines = lines_twice x.lines.items y.lines.items z.lines.items h.0.lines k.0.lines; exit = k.0.exit ∙ h.0.exit }, blocks_twice xs ys zs h.1 k.1)
+block_twice : (x y z : Block) → SameBlock x y → SameBlock y z → SameBlock x z
+block_twice x y z h k = record { lines = lines_twice x.lines.items y.lines.items z.lines.items h.lines k.lines; exit = k.exit ∙ h.exit }
 
 pub twice_same : (f g h : Function) → SameFunction f g → SameFunction g h → SameFunction f h
 twice_same f g h a b = record {
-  blocks = blocks_twice f.blocks.items g.blocks.items h.blocks.items a.blocks b.blocks;
+  blocks = zip_then SameBlock SameBlock SameBlock block_twice f.blocks.items g.blocks.items h.blocks.items a.blocks b.blocks;
   rest = b.rest ∙ ap (λ (k : Function). record k { blocks = h.blocks }) a.rest;
 }
 

@@ -1,4 +1,3 @@
 pub mod Keeps
-pub mod Rows
 pub mod Forms
 pub mod Behind

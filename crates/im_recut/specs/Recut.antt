@@ -1,5 +1,6 @@
 -- Placed code with its gap cuts, where a longest gap was asked for, and then with greedy cuts over all its accesses, those to slots too.
-use Rattle.std.specs.Prelude.{◌≡◌, ◌≤◌, ◌-◌, ℕ, List, [], ◌∷◌, Option, Some, None}
+use Rattle.std.specs.Prelude.{◌≡◌, ◌≤◌, ◌-◌, ℕ, List, Option, Some, None}
+use Rattle.std.specs.List.{AllZip}
 use Rattle.im_block.specs.declared.access.Tags.{Tags}
 use Rattle.im_block.specs.declared.access.Dep.{Dep}
 use Rattle.im_block.specs.declared.unit.Function.{Function}
@@ -27,12 +28,8 @@ pub record RecutsFunction (tags : Tags) (max_gap : Option ℕ) (old new : Functi
   pub added : List Dep
   pub cuts : CutsTo tags gapped new added
 
--- function by function
 abbrev pub RecutsFunctions : Tags → Option ℕ → List Function → List Function → Type 0
-RecutsFunctions tags max_gap [] [] = Unit {0}
-RecutsFunctions tags max_gap (f ∷ fs) (g ∷ gs) = RecutsFunction tags max_gap f g × RecutsFunctions tags max_gap fs gs
-RecutsFunctions tags max_gap [] (g ∷ gs) = ⊥
-RecutsFunctions tags max_gap (f ∷ fs) [] = ⊥
+RecutsFunctions tags max_gap old new = AllZip (RecutsFunction tags max_gap) old new
 
 pub record RecutsTo (tags : Tags) (max_gap : Option ℕ) (old new : Code) : Type 0 where
   pub limit : IsGapLimit max_gap

@@ -4,7 +4,7 @@ use Rattle.std.specs.Bool.{OnTrue}
 use Rattle.im_block.specs.declared.code.Line.{Line}
 use Rattle.im_block.specs.declared.code.Line.TheVariants.{Put}
 use Rattle.im_forward.specs.Known.{IsDead}
-use Rattle.im_forward.proofs.Lists.{got}
+use Rattle.im_block.proofs.Unitwise.{got}
 use Rattle.im_forward.proofs.Leaving.{LeavesTo, keeps_more, drops_more, leaves_all, dead_at}
 use Rattle.im_forward.proofs.dead.leave_out.Goals as goal
 use Rattle.im_forward.proofs.dead.leave_out.Goals.{then-not-is_dead+in_ok-push, else-not-is_dead}

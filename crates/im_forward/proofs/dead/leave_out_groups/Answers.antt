@@ -5,7 +5,7 @@ use Rattle.im_block.specs.declared.code.Exit.{Exit}
 use Rattle.im_block.specs.Wellformed.{ExitThere}
 use Rattle.im_block_live.specs.Words.{groups_have}
 use Rattle.im_forward.specs.Known.{AreOf}
-use Rattle.im_forward.proofs.Lists.{got}
+use Rattle.im_block.proofs.Unitwise.{got}
 use Rattle.im_forward.proofs.Functions.{stays, left_again, group_of}
 use Rattle.im_forward.proofs.dead.leave_out_groups.Goals as goal
 

@@ -2,7 +2,7 @@ use Rattle.std.proofs.Common.{◌≡◌, ◌/◌, ◌%◌, ◌<◌, ℕ, length,
 use Rattle.std.specs.Prelude.{Vec, slice_get, slice_index}
 use Rattle.std.specs.declared.alloc.Global.{Global}
 use Rattle.im_block_live.specs.Words.{has, group_has}
-use Rattle.im_forward.proofs.Lists.{got}
+use Rattle.im_block.proofs.Unitwise.{got}
 use Rattle.im_forward.proofs.Leaving.{default_free}
 use Rattle.im_forward.proofs.dying.lives_at.Goals as goal
 

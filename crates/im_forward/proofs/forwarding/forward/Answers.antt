@@ -4,8 +4,8 @@ use Rattle.std.specs.List.{AllZip}
 use Rattle.std.proofs.lemmas.List.{with_items_is}
 use Rattle.im_forward.specs.Forward.{ForwardsFunction}
 use Rattle.im_forward.specs.Known.{IsReady}
-use Rattle.im_forward.proofs.Lists.{ZipTo, item_all, zip_more, zip_all}
-use Rattle.im_forward.proofs.Functions.{unit_ready, unit_forwards}
+use Rattle.im_block.proofs.Unitwise.{ZipTo, item_all, zip_more, zip_all}
+use Rattle.im_forward.proofs.Functions.{unit_ready}
 use Rattle.im_forward.proofs.forwarding.forward.Goals as goal
 
 pub forward_function-requires : goal.forward_function-requires
@@ -28,4 +28,4 @@ returns c =
     let whole : length l.function-items ≡ c.args.unit.functions.len = omega arith in
     let items = with_items_is c.args.unit.functions l.function-items whole in
     let pairs = zip_all ForwardsFunction l.function-index old l.function-items (omega arith) l.invariant in
-    unit_forwards c.args.unit _ refl (subst (λ z. AllZip ForwardsFunction old z) (sym items) pairs)
+    record { functions = subst (λ z. AllZip ForwardsFunction old z) (sym items) pairs; rest = refl }

@@ -1,5 +1,5 @@
 use Rattle.im_forward.specs.Forward.{ForwardsFunction}
-use Rattle.im_forward.proofs.Lists.{ZipTo}
+use Rattle.im_block.proofs.Unitwise.{ZipTo}
 use Rattle.im_forward.proofs.forwarding.forward.Given as goal
 
 -- the functions so far are forwarded, the others are as they were

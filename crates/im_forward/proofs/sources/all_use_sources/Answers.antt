@@ -4,8 +4,7 @@ use Rattle.std.specs.List.{AllZip}
 use Rattle.std.proofs.lemmas.List.{with_items_is}
 use Rattle.im_alloc_placed.specs.Placeable.{first_free}
 use Rattle.im_forward.specs.Known.{UsesSources}
-use Rattle.im_forward.proofs.Lists.{ZipTo, zip_more, zip_all}
-use Rattle.im_forward.proofs.Functions.{all_uses}
+use Rattle.im_block.proofs.Unitwise.{ZipTo, zip_more, zip_all}
 use Rattle.im_forward.proofs.sources.all_use_sources.Goals as goal
 
 pub loop-block-preserved : goal.loop-block-preserved
@@ -30,4 +29,4 @@ returns c =
     let whole : length l.block-items ≡ old.blocks.len = omega arith in
     let items = with_items_is old.blocks l.block-items whole in
     let pairs = zip_all (UsesSources (first_free old)) l.block-index old.blocks.items l.block-items (omega arith) l.invariant.blocks in
-    all_uses old _ refl (subst (λ z. AllZip (UsesSources (first_free old)) old.blocks.items z) (sym items) pairs)
+    record { blocks = subst (λ z. AllZip (UsesSources (first_free old)) old.blocks.items z) (sym items) pairs; rest = refl }

@@ -1,7 +1,7 @@
 use Rattle.std.proofs.Common.{◌≡◌}
 use Rattle.im_alloc_placed.specs.Placeable.{first_free}
 use Rattle.im_forward.specs.Known.{UsesSources}
-use Rattle.im_forward.proofs.Lists.{ZipTo}
+use Rattle.im_block.proofs.Unitwise.{ZipTo}
 use Rattle.im_forward.proofs.sources.all_use_sources.Given as goal
 
 -- the blocks so far use what was copied, the others are as they were

@@ -6,8 +6,7 @@ use Rattle.im_block.specs.declared.code.Block.{Block}
 use Rattle.im_block.specs.Wellformed.{ExitThere}
 use Rattle.im_block_live.specs.Words.{groups_have}
 use Rattle.im_forward.specs.Straight.{Straightens}
-use Rattle.im_forward.proofs.Lists.{ZipTo, item_all, zip_more, zip_all, got}
-use Rattle.im_forward.proofs.Straightening.{all_straight}
+use Rattle.im_block.proofs.Unitwise.{ZipTo, item_all, zip_more, zip_all, got}
 use Rattle.im_forward.proofs.straight.straighten.Goals as goal
 
 pub straighten_block-requires : goal.straighten_block-requires
@@ -38,4 +37,4 @@ returns c =
     let whole : length l.block-items ≡ old.blocks.len = omega arith in
     let items = with_items_is old.blocks l.block-items whole in
     let pairs = zip_all (Straightens live) l.block-index old.blocks.items l.block-items (omega arith) l.invariant in
-    all_straight live old _ refl (subst (λ z. AllZip (Straightens live) old.blocks.items z) (sym items) pairs)
+    record { blocks = subst (λ z. AllZip (Straightens live) old.blocks.items z) (sym items) pairs; rest = refl }

@@ -1,6 +1,6 @@
 use Rattle.im_block_live.specs.Words.{groups_have}
 use Rattle.im_forward.specs.Straight.{Straightens}
-use Rattle.im_forward.proofs.Lists.{ZipTo}
+use Rattle.im_block.proofs.Unitwise.{ZipTo}
 use Rattle.im_forward.proofs.straight.straighten.Given as goal
 
 -- lines of the blocks so far are straight, the others are as they were

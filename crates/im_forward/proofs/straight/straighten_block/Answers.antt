@@ -2,7 +2,7 @@ use Rattle.std.proofs.Common.{◌≡◌, ◌+◌, ◌<◌, ◌≤◌, ◌++◌, 
 use Rattle.std.specs.Prelude.{slice_get}
 use Rattle.im_block.specs.declared.code.Line.{Line}
 use Rattle.im_block_live.specs.Words.{groups_have}
-use Rattle.im_forward.proofs.Lists.{got}
+use Rattle.im_block.proofs.Unitwise.{got}
 use Rattle.im_forward.proofs.Straightening.{BecomesTo, stays_on, pairs_on, all_become}
 use Rattle.im_forward.proofs.straight.straighten_block.Goals as goal
 

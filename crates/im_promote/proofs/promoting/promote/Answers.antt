@@ -3,7 +3,7 @@ use Rattle.std.specs.Prelude.{slice_set}
 use Rattle.std.specs.List.{AllZip}
 use Rattle.std.proofs.lemmas.List.{with_items_is}
 use Rattle.im_promote.specs.Homes.{IsReady, IsPromotedFunction}
-use Rattle.im_promote.proofs.Lists.{ZipTo, item_all, zip_more, zip_all}
+use Rattle.im_block.proofs.Unitwise.{ZipTo, item_all, zip_more, zip_all}
 use Rattle.im_promote.proofs.Units.{unit_ready, unit_promoted}
 use Rattle.im_promote.proofs.promoting.promote.Goals as goal
 

@@ -1,5 +1,5 @@
 use Rattle.im_promote.specs.Homes.{IsPromotedFunction}
-use Rattle.im_promote.proofs.Lists.{ZipTo}
+use Rattle.im_block.proofs.Unitwise.{ZipTo}
 use Rattle.im_promote.proofs.promoting.promote.Given as goal
 
 -- the functions so far are promoted, the others are as they were

@@ -1,7 +1,7 @@
 use Rattle.std.proofs.Common.{◌≡◌, ◌+◌, ◌<◌, ℕ, List, Option, suc, length, arith, subst, refl, get_or}
 use Rattle.std.specs.Prelude.{slice_set}
 use Rattle.im_promote.specs.Homes.{homes_from, RewritesBlock}
-use Rattle.im_promote.proofs.Lists.{ZipTo, zip_more}
+use Rattle.im_block.proofs.Unitwise.{ZipTo, zip_more}
 use Rattle.im_promote.proofs.rewrite.rewrite.Goals as goal
 
 pub loop-block-preserved : goal.loop-block-preserved

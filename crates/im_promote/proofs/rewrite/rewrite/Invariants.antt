@@ -1,6 +1,6 @@
 use Rattle.std.proofs.Common.{◌≡◌}
 use Rattle.im_promote.specs.Homes.{homes_from, RewritesBlock}
-use Rattle.im_promote.proofs.Lists.{ZipTo}
+use Rattle.im_block.proofs.Unitwise.{ZipTo}
 use Rattle.im_promote.proofs.rewrite.rewrite.Given as goal
 
 -- the blocks so far are rewritten, the others are as they were
