@@ -74,8 +74,8 @@ fn find_register(registers: &[Option<u64>; 32], position: u64, is_argument: bool
     None
 }
 
-/// The first slot that is free at a position, and was so at the one before: what a line reads and what
-/// it sets have slots of their own, since a cut would have to stand between.
+/// The first slot that is free at a position, and was so at the one before: what a line reads and
+/// what it sets have slots of their own, since a cut would have to stand between.
 fn find_slot(slots: &[u64], position: u64) -> Option<usize>
     ensures { FindsSlot slots.now position result }
 {

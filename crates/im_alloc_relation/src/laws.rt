@@ -5,7 +5,8 @@ pub fn slots_law()
     ensures { SlotsLaw }
 {}
 
-/// Placed code has the block code's outcome and its events, but for accesses to slots and for more cuts.
+/// Placed code has the block code's outcome and its events, but for accesses to slots and for more
+/// cuts.
 pub fn placed_law()
     ensures { PlaceKeeps }
 {}

@@ -24,13 +24,9 @@ use std::alloc::Global;
 pub(crate) fn small(number: i128) -> Option<Value>
     ensures { IfSome result (λ value. store.Number number ≡ shown value) }
 {
-    if number > i64::MIN as i128 && number <= i64::MAX as i128 {
-        let number = Number {
-            value: number as i64,
-        };
-        Some(Value::Number(number))
-    } else {
-        None
+    match Number::of(number) {
+        Some(number) => Some(Value::Number(number)),
+        None => None,
     }
 }
 

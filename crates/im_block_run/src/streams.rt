@@ -24,7 +24,9 @@ const MINUS_ONE: Number = Number { value: -1 };
 fn byte_number(byte: u8) -> Number
     ensures { result.value ≡ pos byte }
 {
-    Number { value: byte as i64 }
+    Number {
+        value: byte as i128,
+    }
 }
 
 /// A number as an `unsigned char`.

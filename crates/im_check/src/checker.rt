@@ -33,8 +33,8 @@ fn unit_program(alloc: Global, over: Option<usize>, typed: &mut Parts) -> Result
     Ok(prog)
 }
 
-/// The program of a tree whose words are as a source has them. The tree is given back, part by part,
-/// as its program grows.
+/// The program of a tree whose words are as a source has them. The tree is given back, part by
+/// part, as its program grows.
 pub fn check(alloc: Global, tree: Tree) -> Result<Prog, CheckFault>
     requires { IsWrittenUnit (tree_of tree) }
     ensures { MatchResult result (IsChecked (tree_of tree)) (IsCheckFault (tree_of tree)) }

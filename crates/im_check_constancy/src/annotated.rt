@@ -29,7 +29,7 @@ pub fn number(kind: Kind, z: Number) -> Annotated
     ensures { (types : Table) → expr_of types result.tree ≡ p.Constant kind z.value }
 {
     Annotated {
-        tree: Expr::Number(kind, z.value as i128),
+        tree: Expr::Number(kind, z.value),
         constancy: Constancy {
             is_constant: true,
             value: Some(z),

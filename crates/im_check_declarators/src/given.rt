@@ -4,7 +4,7 @@ use crate::declared::Declared;
 #[derive(Drop)]
 pub enum Given {
     /// The value of an array's length as a constant expression, if it is one.
-    Length(Option<i64>),
+    Length(Option<i128>),
     /// No length is written.
     Open,
     /// A function's parameters, as they are declared.

@@ -33,8 +33,8 @@ fn starred(alloc: Global, at: u32, star: Star, q: Qualified) -> Result<Qualified
     })
 }
 
-/// The type that stars make of another one, the first of them nearest to it; `at` is the first token
-/// of their declarator.
+/// The type that stars make of another one, the first of them nearest to it; `at` is the first
+/// token of their declarator.
 pub fn with_stars(alloc: Global, at: u32, stars: &[Star], q: Qualified) -> Result<Qualified, Stop>
     ensures { IsQualified (d.stars_ask (qualified_of q) (stars_in stars.now))
         (d.with_stars (qualified_of q) (stars_in stars.now)) at result }

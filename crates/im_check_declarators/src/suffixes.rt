@@ -1,5 +1,5 @@
 //! Suffixes (C11 6.7.6.2, 6.7.6.3).
-ghost use Rattle.std.specs.Prelude.{◌≡◌, ◌≤◌, ◌∷◌, List, length, Bool, IfOk};
+ghost use Rattle.std.specs.Prelude.{◌≡◌, ◌≤◌, ◌∷◌, List, length, Bool, IfOk, pos};
 ghost use Rattle.im_ctree.specs.Tree as t;
 ghost use Rattle.im_ctype.specs.Table.{structs_of};
 ghost use Rattle.im_rules.specs.Context.{Context};
@@ -39,7 +39,7 @@ fn element(known: usize, at: u32, ty: &Type) -> Result<(), Stop>
     Ok(())
 }
 
-fn is_count(value: i64) -> bool
+fn is_count(value: i128) -> bool
     ensures { result ≡ rule_6_length (Some value) }
 {
     value > 0
@@ -56,7 +56,7 @@ fn is_within(table: &TypeTable, ty: &Type) -> Result<(), NoMemory>
 }
 
 /// What is asked of an array's length and its elements; gives the length.
-fn counted(table: &TypeTable, at: u32, value: Option<i64>, ty: &Type) -> Result<u64, Stop>
+fn counted(table: &TypeTable, at: u32, value: Option<i128>, ty: &Type) -> Result<u64, Stop>
     ensures { (c : Context) (constant : Bool) → c.known ≡ structs_of table.now
         → IsCount c (record { constant = constant; type = type_of ty.now }) value at result }
 {
@@ -70,7 +70,20 @@ fn counted(table: &TypeTable, at: u32, value: Option<i64>, ty: &Type) -> Result<
         });
     }
     element(table.struct_count(), at, ty)?;
-    Ok(count.unsigned_abs())
+    match long(count) {
+        Ok(number) => Ok(number),
+        Err(_) => Err(Stop::Memory),
+    }
+}
+
+/// A number of 64 bits. Want of memory where it has more.
+fn long(count: i128) -> Result<u64, NoMemory>
+    ensures { IfOk result (λ n. pos n ≡ count) }
+{
+    match u64::try_from(count) {
+        Ok(number) => Ok(number),
+        Err(_) => Err(NoMemory::OutOfMemory),
+    }
 }
 
 /// An array of these elements, by the value of its length as a constant expression, if it is one;
@@ -80,7 +93,7 @@ pub fn array(
     alloc: Global,
     table: &TypeTable,
     at: u32,
-    value: Option<i64>,
+    value: Option<i128>,
     q: Qualified,
 ) -> Result<Qualified, Stop>
     ensures { (c : Context) → c.known ≡ structs_of table.now

@@ -27,8 +27,8 @@ fn has_complete_type(known: usize, object: &Local) -> bool
     is_complete(known, &object.ty)
 }
 
-/// Whether the types of objects are complete where so many structs have their member lists, as those
-/// of a function are.
+/// Whether the types of objects are complete where so many structs have their member lists, as
+/// those of a function are.
 pub fn are_complete(known: usize, objects: &[Local]) -> bool
     ensures { result ≡ all_complete known objects.now }
 {

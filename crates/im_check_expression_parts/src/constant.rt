@@ -10,7 +10,7 @@ ghost use Rattle.im_check_constancy.specs.Told.{constant_in};
 use im_check_constancy::{Annotated, Constancy};
 use im_check_operands::Term;
 
-fn known(constancy: Constancy) -> Option<i64>
+fn known(constancy: Constancy) -> Option<i128>
     ensures { result ≡ constant_in constancy }
 {
     if !constancy.is_constant {
@@ -22,14 +22,14 @@ fn known(constancy: Constancy) -> Option<i64>
     }
 }
 
-fn value_of(v: &Annotated) -> Option<i64>
+fn value_of(v: &Annotated) -> Option<i128>
     ensures { (types : Table) → result ≡ constant_value (expr_of types v.now.tree) }
 {
     known(v.constancy)
 }
 
 /// The value of a term as a constant expression, if it is one.
-pub fn constant_of(term: &Term) -> Option<i64>
+pub fn constant_of(term: &Term) -> Option<i128>
     ensures { (types : Table) → result ≡ r.constant_in (term_in types term.now) }
 {
     match term {

@@ -23,7 +23,8 @@ use im_check_type_specifiers::{mention, specified_type};
 use im_ctree::{Declarator, Parameter};
 use std::alloc::Global;
 
-/// The parameters of a function, as they are declared in a scope of their own, which ends with them.
+/// The parameters of a function, as they are declared in a scope of their own, which ends with
+/// them.
 #[cycle(walk)]
 pub fn parameters(
     alloc: Global,

@@ -18,8 +18,8 @@ use im_ctree::Function;
 use std::alloc::Global;
 
 /// A function definition. Its name, the structs and the names that its specifiers declare, and its
-/// string literals are behind those of the file. Want of memory also where it has 2^32 parameters or
-/// more.
+/// string literals are behind those of the file. Want of memory also where it has 2^32 parameters
+/// or more.
 pub fn definition(alloc: Global, f: &Function, file: &mut File) -> Result<Defined, Stop>
     ensures { let x = external_of (ext.Function f.now) in MatchResult result
         (DefinitionDone file.old x file.new)

@@ -56,8 +56,8 @@ fn is_there(alloc: Global, scope: &Scope) -> Result<bool, NoMemory>
     }
 }
 
-/// Whether there is a body of `int main(void)`, by what names mean behind the unit; it is refused at
-/// the unit's first token (rule 13).
+/// Whether there is a body of `int main(void)`, by what names mean behind the unit; it is refused
+/// at the unit's first token (rule 13).
 pub fn has_main(alloc: Global, scope: &Scope) -> Result<(), Stop>
     ensures { MatchResult result (λ _. Meets (f.main_asks (scopes_of scope.now)))
         (IsRefusal (f.main_asks (scopes_of scope.now)) 0) }

@@ -24,7 +24,8 @@ pub struct File {
 }
 
 impl File {
-    /// Before the first declaration of a unit. Want of memory where it defines 2^32 objects or more.
+    /// Before the first declaration of a unit. Want of memory where it defines 2^32 objects or
+    /// more.
     pub fn start(alloc: Global, tree: &Tree) -> Result<File, NoMemory>
         ensures { IfOk result (λ file. file_place_of file ≡ f.file_start (tree_of tree.now)) }
     {

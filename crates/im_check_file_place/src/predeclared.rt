@@ -70,8 +70,8 @@ fn functions(alloc: Global) -> Result<Scope, NoMemory>
     )
 }
 
-/// The scopes before the first declaration of a unit: the types that stand in for headers, `getchar`
-/// and `putchar`.
+/// The scopes before the first declaration of a unit: the types that stand in for headers,
+/// `getchar` and `putchar`.
 pub(crate) fn predeclared(alloc: Global) -> Result<Scope, NoMemory>
     ensures { IfOk result (λ made. scopes_of made ≡ f.predeclared) }
 {

@@ -45,7 +45,8 @@ fn size_of_text(texts: &[Vec<u8>], number: usize) -> u64
 }
 
 impl File {
-    /// The bytes of a static, as far as it is declared: an object, or a string literal behind those.
+    /// The bytes of a static, as far as it is declared: an object, or a string literal behind
+    /// those.
     pub fn static_size(&self, number: usize) -> Result<u64, NoMemory>
         ensures { IfOk result (λ n. n ≡ f.static_size (file_place_of self.now) number) }
     {

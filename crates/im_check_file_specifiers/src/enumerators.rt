@@ -35,7 +35,7 @@ fn number(
     value: &Option<Box<Expression>>,
     next: Number,
     file: &mut File,
-) -> Result<Option<i64>, Stop>
+) -> Result<Option<i128>, Stop>
     ensures { let e = maybe_from value.now in MatchResult result
         (IsNumbered (file_place_of file.old) next.value e (file_place_of file.new))
         (IsValueFault (file_place_of file.old) e) }
@@ -50,7 +50,7 @@ fn number(
     }
 }
 
-fn fits_int(z: i64) -> bool
+fn fits_int(z: i128) -> bool
     ensures { result ≡ u.rule_8_constant z }
 {
     z >= -2147483648 && z < 2147483648
@@ -72,7 +72,7 @@ fn is_type(scope: &Scope, name: &[u8]) -> bool
 }
 
 /// The value of a constant that may be declared here.
-fn asked(scope: &Scope, at: u32, name: &[u8], z: Option<i64>) -> Result<Number, Stop>
+fn asked(scope: &Scope, at: u32, name: &[u8], z: Option<i128>) -> Result<Number, Stop>
     ensures { MatchResult result
         (λ n. (Meets (f.enumerator_asks (scopes_of scope.now) name.now z) × (z ≡ Some n.value))
         × (u.rule_8_constant n.value ≡ true))

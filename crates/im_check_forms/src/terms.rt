@@ -35,7 +35,7 @@ fn size_value(table: &TypeTable, ty: &Type) -> Result<Term, NoMemory>
     Ok(Term::Value(literal(
         Integer::UnsignedInt,
         Number {
-            value: bytes as i64,
+            value: bytes as i128,
         },
     )))
 }

@@ -26,9 +26,9 @@ use std::alloc::Global;
 /// Puts what goes where in an object behind the items: an object of that type, which lies so many
 /// bytes from the start of the whole. It goes on behind the string literals of the initialiser that
 /// initialise no array. An initialiser that is no form of the type breaks rule 16, an expression
-/// that doesn't fit breaks rule 17, and a type in an expression may be over the limit of sizes. Want
-/// of memory where an offset is no number of 64 bits, or a string literal's number none of 32. It
-/// recurs as deep as the tree is.
+/// that doesn't fit breaks rule 17, and a type in an expression may be over the limit of sizes.
+/// Want of memory where an offset is no number of 64 bits, or a string literal's number none of 32.
+/// It recurs as deep as the tree is.
 #[cycle(walk)]
 pub fn initialised<'a>(
     alloc: Global,

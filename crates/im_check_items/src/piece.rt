@@ -36,7 +36,7 @@ fn constant(kind: Kind, byte: u8) -> Expr
     ensures { (types : Table) → q.expr_of types result
         ≡ p.Constant kind (wrap kind (pos byte)) }
 {
-    Expr::Number(kind, of_word(kind, byte as u32) as i128)
+    Expr::Number(kind, of_word(kind, byte as u32))
 }
 
 /// What goes to a place of that type.

@@ -67,11 +67,11 @@ fn ordinary(
 
 /// A declaration in a block: what it does is pushed behind `done`, and its names, its objects and
 /// its string literals are behind those of the body. A name that the innermost scope has breaks
-/// rule 3, one of a type rule 4, an absent length rule 6, and an incomplete type rule 5; the rest is
-/// broken in its specifiers, declarators and initialisers. `struct s;` alone declares the tag in the
-/// innermost scope, and breaks rule 3 where that has it as an enum's. A type in these, or an object's
-/// own, may be over the limit of sizes. Want of memory also where an object's number has more than
-/// 32 bits, and of a name that is declared already where no block is open.
+/// rule 3, one of a type rule 4, an absent length rule 6, and an incomplete type rule 5; the rest
+/// is broken in its specifiers, declarators and initialisers. `struct s;` alone declares the tag in
+/// the innermost scope, and breaks rule 3 where that has it as an enum's. A type in these, or an
+/// object's own, may be over the limit of sizes. Want of memory also where an object's number has
+/// more than 32 bits, and of a name that is declared already where no block is open.
 pub fn declaration(
     alloc: Global,
     d: &Declaration,

@@ -45,8 +45,8 @@ fn named(alloc: Global, name: Option<Name>) -> Name
     }
 }
 
-/// The object that a declarator declares, where the rules have nothing against it; `at` is its first
-/// token.
+/// The object that a declarator declares, where the rules have nothing against it; `at` is its
+/// first token.
 fn declared_object(
     alloc: Global,
     at: u32,

@@ -32,7 +32,7 @@ pub fn number_term(number: im_tok::Number) -> Term
         (c.literal (c.number_type number.number_type) (pos number.value)) }
 {
     let value = Number {
-        value: number.value as i64,
+        value: number.value as i128,
     };
     Term::Value(literal(number_type(number.number_type), value))
 }
@@ -43,7 +43,7 @@ pub fn character_term(value: u8) -> Term
         (c.literal Integer.Int (pos value)) }
 {
     let number = Number {
-        value: value as i64,
+        value: value as i128,
     };
     Term::Value(literal(Integer::Int, number))
 }

@@ -7,7 +7,8 @@ use crate::map::NameMap;
 use im_num::NoMemory;
 use std::alloc::Global;
 
-/// The tags of member lists in order, where they have one; each is found by its bytes. Contracts see the list.
+/// The tags of member lists in order, where they have one; each is found by its bytes. Contracts
+/// see the list.
 #[derive(Drop)]
 pub struct TagList {
     tags: Vec<Option<Vec<u8>>>,

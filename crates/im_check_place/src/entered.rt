@@ -10,7 +10,8 @@ use im_num::NoMemory;
 use im_types::id_of;
 use std::alloc::Global;
 
-/// A member with its type in the table. One of no complete object type is answered by want of memory.
+/// A member with its type in the table. One of no complete object type is answered by want of
+/// memory.
 fn entered_one(alloc: Global, table: &mut TypeTable, field: &Field) -> Result<Member, NoMemory>
     ensures member { IfOk result (IsEntered table.new (field_of field.now)) }
     ensures grown { IsGrown table.old table.new }

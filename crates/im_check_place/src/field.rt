@@ -1,7 +1,7 @@
 use im_types::Type;
 
-/// A member of a struct whose list hasn't ended (C11 6.7.2.1): its name, whether it is const itself,
-/// and its type.
+/// A member of a struct whose list hasn't ended (C11 6.7.2.1): its name, whether it is const
+/// itself, and its type.
 #[derive(Drop)]
 pub struct Field {
     pub name: Vec<u8>,

@@ -56,7 +56,8 @@ impl Structs {
         self.table
     }
 
-    /// Of each struct, whether it has no `const` in its members, nor in those of structs within them.
+    /// Of each struct, whether it has no `const` in its members, nor in those of structs within
+    /// them.
     pub fn free(&self) -> &[bool]
         ensures { result.now ≡ u.free_from [] (structs_of self.now) }
     {
@@ -69,8 +70,9 @@ impl Structs {
     {
         self.table.struct_count()
     }
-    /// Adds a struct whose member list has ended; gives its number. Its members are to have complete
-    /// object types and its bytes to be a number of 64 bits, else it is answered by want of memory.
+    /// Adds a struct whose member list has ended; gives its number. Its members are to have
+    /// complete object types and its bytes to be a number of 64 bits, else it is answered by want
+    /// of memory.
     pub fn add(&mut self, alloc: Global, fields: &[Field]) -> Result<u32, NoMemory>
         ensures number { IfOk result (λ n. n ≡ length (structs_of self.old)) }
         ensures added { OnOk result (structs_of self.new

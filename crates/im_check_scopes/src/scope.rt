@@ -15,7 +15,8 @@ pub(crate) struct Kept {
     pub(crate) shadowed: Option<usize>,
 }
 
-/// The scopes at a place of the text. Contracts see the entries that made them, the outermost first.
+/// The scopes at a place of the text. Contracts see the entries that made them, the outermost
+/// first.
 #[derive(Drop)]
 pub struct Scope {
     pub(crate) kept: Vec<Kept>,

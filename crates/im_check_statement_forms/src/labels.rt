@@ -26,7 +26,7 @@ use std::collections::BTreeSet;
 /// The labels of a switch so far, the constants of its cases also as a set.
 #[derive(Drop)]
 pub struct Labels {
-    pub seen: BTreeSet<i64>,
+    pub seen: BTreeSet<i128>,
     pub cases: Vec<Case>,
     pub otherwise: Option<u32>,
 }
@@ -57,7 +57,7 @@ fn add_case(labels: &mut Labels, value: Number, at: u32) -> Result<bool, Stop>
     Ok(true)
 }
 
-fn plain(value: Number) -> i64
+fn plain(value: Number) -> i128
     ensures { result ≡ value.value }
 {
     value.value
@@ -67,7 +67,7 @@ fn case_of(value: Number, at: u32) -> Case
     ensures { result ≡ st.case_at value.value at }
 {
     Case {
-        value: value.value as i128,
+        value: value.value,
         at,
     }
 }

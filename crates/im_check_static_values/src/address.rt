@@ -46,7 +46,7 @@ fn target(offset: u64, bytes: u32, back: bool, by: Number) -> i128
     ensures { result ≡ pos offset +ℤ (if back then neg_ℤ (by.value *ℤ pos bytes)
         else by.value *ℤ pos bytes) }
 {
-    let distance = by.value as i128 * bytes as i128;
+    let distance = by.value * bytes as i128;
     if back {
         offset as i128 - distance
     } else {

@@ -20,15 +20,9 @@ use std::mem;
 fn number_from(z: i128) -> Result<Number, NoMemory>
     ensures { IfOk result (λ n. n.value ≡ z) }
 {
-    match i64::try_from(z) {
-        Ok(value) => {
-            if value > i64::MIN {
-                Ok(Number { value })
-            } else {
-                Err(NoMemory::OutOfMemory)
-            }
-        }
-        Err(_) => Err(NoMemory::OutOfMemory),
+    match Number::of(z) {
+        Some(number) => Ok(number),
+        None => Err(NoMemory::OutOfMemory),
     }
 }
 
@@ -47,7 +41,7 @@ pub(crate) fn taken(e: &mut Expr) -> Expr
 }
 
 /// A typed expression beside what it is as a constant expression. Want of memory where a number in
-/// it is none of 64 bits.
+/// it has more than 64 bits.
 pub fn annotated(alloc: Global, e: Expr) -> Result<Annotated, NoMemory>
     ensures { (types : Table) → IfOk result (λ a. expr_of types a.tree ≡ expr_of types e) }
 {
@@ -99,7 +93,7 @@ pub fn annotated(alloc: Global, e: Expr) -> Result<Annotated, NoMemory>
 }
 
 /// The value of a constant expression; none of what is no constant expression. Want of memory where
-/// a number in it is none of 64 bits.
+/// a number in it has more than 64 bits.
 pub fn constant_value(alloc: Global, e: Expr) -> Result<Option<Number>, NoMemory>
     ensures { (types : Table) → IfOk result (λ z. number_in z
         ≡ c.constant_value (expr_of types e)) }

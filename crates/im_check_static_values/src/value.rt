@@ -30,9 +30,9 @@ fn pointer_to(spot: Option<Spot>) -> Result<Option<Constant>, NoMemory>
     }
 }
 
-/// The value of an expression as a constant: a number, null or a place in a static; none where it is
-/// neither a constant expression nor an address constant. Want of memory where a number in it is
-/// none of 64 bits, or an offset none of 32.
+/// The value of an expression as a constant: a number, null or a place in a static; none where it
+/// is neither a constant expression nor an address constant. Want of memory where a number in it
+/// has more than 64 bits, or an offset is none of 32.
 pub fn static_value<S: Sizes>(
     alloc: Global,
     sizes: &S,
@@ -46,7 +46,7 @@ pub fn static_value<S: Sizes>(
     }
     let whole = annotated(alloc, e)?;
     if let Some(z) = number_of(&whole) {
-        return Ok(Some(Constant::Number(z.value as i128)));
+        return Ok(Some(Constant::Number(z.value)));
     }
     let spot = address_of(alloc, sizes, whole.tree)?;
     pointer_to(spot)

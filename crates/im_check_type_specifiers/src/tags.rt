@@ -73,8 +73,8 @@ fn declare_struct(
     scope.declare_tag(alloc, kept, Tag::Struct(number))
 }
 
-/// Declares the struct's tag that specifiers in a declaration or a parameter mention, where it isn't
-/// in scope (C11 6.7.2.3p8).
+/// Declares the struct's tag that specifiers in a declaration or a parameter mention, where it
+/// isn't in scope (C11 6.7.2.3p8).
 pub fn mention(
     alloc: Global,
     scope: &mut Scope,
@@ -95,8 +95,8 @@ pub fn mention(
     }
 }
 
-/// Declares the struct's tag of a declaration `struct s;` in the innermost scope, where that hasn't it
-/// (C11 6.7.2.3p7); `at` is the declaration's first token, `first` the tag's.
+/// Declares the struct's tag of a declaration `struct s;` in the innermost scope, where that hasn't
+/// it (C11 6.7.2.3p7); `at` is the declaration's first token, `first` the tag's.
 pub fn declare_alone(
     alloc: Global,
     scope: &mut Scope,

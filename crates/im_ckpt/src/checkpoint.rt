@@ -79,9 +79,9 @@ fn push_stores(lines: &mut Vec<Line>, registers: &[u8]) -> Result<(), NoMemory>
     Ok(())
 }
 
-/// The lines of the checkpoint routine, 173 in all, which stand at 0x1100: entries E4 to E31 of five
-/// lines each, and one ladder. A cut is `jal x3, Em` where x5 to xm are to be saved; the label of
-/// entry Em is m.
+/// The lines of the checkpoint routine, 173 in all, which stand at 0x1100: entries E4 to E31 of
+/// five lines each, and one ladder. A cut is `jal x3, Em` where x5 to xm are to be saved; the label
+/// of entry Em is m.
 pub fn checkpoint_lines(alloc: Global) -> Result<Vec<Line>, NoMemory>
     ensures { IfOk result (λ lines. code_lines lines.items ≡ checkpoint_code) }
 {

@@ -43,8 +43,8 @@ pub fn build_source<H: Shelf, O: Sink, E: Sink>(
     }
 }
 
-/// Builds a source, stores its image, and runs it. `out` gets the run's output, and `err` the lines of
-/// the build and of the run.
+/// Builds a source, stores its image, and runs it. `out` gets the run's output, and `err` the lines
+/// of the build and of the run.
 pub fn run_source<'a, H: Shelf, O: Sink, E: Sink>(
     alloc: Global,
     shelf: &mut H,
@@ -70,8 +70,8 @@ pub fn run_source<'a, H: Shelf, O: Sink, E: Sink>(
     }
 }
 
-/// Runs an image, from the memory of the file that is named for it where one is. `out` gets the run's
-/// output, and `err` the lines of the run.
+/// Runs an image, from the memory of the file that is named for it where one is. `out` gets the
+/// run's output, and `err` the lines of the run.
 pub fn execute<'a, H: Shelf, O: Sink, E: Sink>(
     alloc: Global,
     shelf: &mut H,
@@ -158,8 +158,8 @@ pub fn report<H: Shelf, O: Sink, E: Sink>(
     }
 }
 
-/// Builds a source, stores nothing, and evaluates what it means with the frames of that build. `out` gets
-/// the output, and `err` the frames, how it ended and the variables.
+/// Builds a source, stores nothing, and evaluates what it means with the frames of that build.
+/// `out` gets the output, and `err` the frames, how it ended and the variables.
 pub fn evaluate_source<H: Shelf, O: Sink, E: Sink>(
     alloc: Global,
     shelf: &mut H,
@@ -180,8 +180,8 @@ pub fn evaluate_source<H: Shelf, O: Sink, E: Sink>(
     }
 }
 
-/// Builds the made source of so many functions, and runs its image under periods that all commit; no file
-/// is touched. `out` gets the line of the run.
+/// Builds the made source of so many functions, and runs its image under periods that all commit;
+/// no file is touched. `out` gets the line of the run.
 pub fn generate_and_run<O: Sink, E: Sink>(alloc: Global, out: &mut O, err: &mut E, count: u32) -> u8
     ensures { (shelf : ShelfState) → CarriesOut (generates count) shelf shelf (O.state out.old)
         (O.state out.new) (E.state err.old) (E.state err.new) result }

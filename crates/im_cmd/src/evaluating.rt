@@ -94,8 +94,8 @@ fn outcome_of(alloc: Global, whole: &Compiled, input: &[u8], fuel: u32) -> Resul
     )
 }
 
-/// Builds a source, stores nothing, and evaluates what its program means on the input that the options
-/// name, with so much fuel.
+/// Builds a source, stores nothing, and evaluates what its program means on the input that the
+/// options name, with so much fuel.
 pub fn evaluate<'a, H: Shelf>(
     alloc: Global,
     shelf: &mut H,

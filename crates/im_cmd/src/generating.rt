@@ -57,7 +57,8 @@ fn run_made<'a>(alloc: Global, count: u32, built: &Built) -> Result<Machine<Page
     Ok(machine)
 }
 
-/// Builds the made source of so many functions and runs its image. Answers the machine as the run left it.
+/// Builds the made source of so many functions and runs its image. Answers the machine as the run
+/// left it.
 pub fn generate<'a>(alloc: Global, count: u32) -> Result<Machine<PagedMem>, Refusal<'a>>
     ensures { MatchResult result (Generated count)
         (λ refusal. RefusesGeneration count (refused_of refusal)) }

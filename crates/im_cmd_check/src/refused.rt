@@ -7,8 +7,8 @@ use crate::message::send_at_place;
 use im_fault::{SourceFault, Subject};
 use im_io::{Failed, Sink, send};
 
-/// Sends the message of a source that is refused: its text, and the name of its file. A quantity over
-/// its limit is counted of the subject.
+/// Sends the message of a source that is refused: its text, and the name of its file. A quantity
+/// over its limit is counted of the subject.
 pub fn send_source_message<S: Sink>(
     sink: &mut S,
     file: &str,

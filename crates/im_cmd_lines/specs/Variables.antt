@@ -3,7 +3,7 @@ use Rattle.std.specs.Prelude.{ℕ, List, ◌++◌, codes, decimal, map, slice_in
 use Rattle.std.specs.List.{flat_map}
 use Rattle.std.specs.Fmt.{signed_decimal}
 use Rattle.im_num.specs.declared.values.CellValue.{CellValue}
-use Rattle.im_num.specs.declared.values.CellValue.TheVariants.{Number, Null, Inside, Local}
+use Rattle.im_num.specs.declared.values.CellValue.TheVariants.{Number, Null, Inside, Local, NoValue}
 use Rattle.im_image.specs.Contents.{ObjectValue}
 use Rattle.im_num.specs.Variables.{Variable}
 
@@ -16,6 +16,7 @@ cell_text objects (Number n) = signed_decimal n
 cell_text objects Null = codes "null"
 cell_text objects (Inside object offset) = object_name objects object ++ codes "+" ++ decimal offset
 cell_text objects Local = codes "local"
+cell_text objects NoValue = codes "unset"
 
 -- a variable's name, and behind it each of its cells
 abbrev pub variable_line : List ObjectValue → Variable → List ℕ

@@ -52,8 +52,8 @@ pub(crate) fn send_frame_lines<S: Sink>(sink: &mut S, frames: &[Frame]) -> Resul
     Ok(())
 }
 
-/// Sends the lines of a build: words of code, a bound on the instructions from power-up or a cut to the
-/// next cut or the halt, and the bytes of each function's frame.
+/// Sends the lines of a build: words of code, a bound on the instructions from power-up or a cut to
+/// the next cut or the halt, and the bytes of each function's frame.
 pub fn send_build_lines<S: Sink>(
     sink: &mut S,
     words: u32,

@@ -11,7 +11,7 @@ use itoa::Buffer;
 #[derive(Clone, Copy, PartialEq, Eq, Debug)]
 pub enum Evaluated {
     /// `main` returned this status.
-    Returned(i64),
+    Returned(i128),
     /// A function was called whose frame has no room on the stack.
     StackExhausted,
     /// What the source does on this input is undefined.
@@ -43,8 +43,8 @@ fn send_evaluated_line<S: Sink>(sink: &mut S, evaluated: Evaluated) -> Result<()
     }
 }
 
-/// Sends the lines of an evaluation: the frames that it was made with, and how it ended. Its variables
-/// have lines of their own.
+/// Sends the lines of an evaluation: the frames that it was made with, and how it ended. Its
+/// variables have lines of their own.
 pub fn send_evaluation_lines<S: Sink>(
     sink: &mut S,
     frames: &[Frame],

@@ -12,8 +12,8 @@ fn sum_of(bytes: &[u8]) -> u128
     bytes.iter().map(|byte| u128::from(*byte)).sum()
 }
 
-/// Sends the line of a run of the made source of so many functions: the bytes of its output, what they
-/// add up to, and the status.
+/// Sends the line of a run of the made source of so many functions: the bytes of its output, what
+/// they add up to, and the status.
 pub fn send_generation_line<S: Sink>(
     sink: &mut S,
     count: u32,

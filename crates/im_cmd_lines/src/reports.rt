@@ -117,9 +117,9 @@ fn send_report_front<S: Sink>(
     }
 }
 
-/// Sends the lines of a report: words of code, the longest gap in instructions, bytes of statics, the
-/// bytes of each function's frame, and each cut by its address, with the part of the code that it
-/// stands in and its cause.
+/// Sends the lines of a report: words of code, the longest gap in instructions, bytes of statics,
+/// the bytes of each function's frame, and each cut by its address, with the part of the code that
+/// it stands in and its cause.
 pub fn send_report_lines<S: Sink>(
     sink: &mut S,
     words: u32,

@@ -45,6 +45,7 @@ fn send_cell<S: Sink>(sink: &mut S, objects: &[Object], cell: CellValue) -> Resu
         CellValue::Null => send(sink, b" null"),
         CellValue::Inside { object, offset } => send_place(sink, name_at(objects, object), offset),
         CellValue::Local => send(sink, b" local"),
+        CellValue::NoValue => send(sink, b" unset"),
     }
 }
 
@@ -87,8 +88,8 @@ fn send_variable_line<S: Sink>(
     }
 }
 
-/// Sends the lines of variables: each one's name and the values of its cells. A place is told by the
-/// name of its object and bytes from the object's start.
+/// Sends the lines of variables: each one's name and the values of its cells. A place is told by
+/// the name of its object and bytes from the object's start.
 pub fn send_variable_lines<S: Sink>(
     sink: &mut S,
     objects: &[Object],

@@ -61,7 +61,8 @@ fn finished(alloc: Global, prepared: Prepared, options: Options) -> Result<Built
     })
 }
 
-/// The image of a program, by all passes in a row. Its statics are such that an image can name them.
+/// The image of a program, by all passes in a row. Its statics are such that an image can name
+/// them.
 pub fn compile(alloc: Global, prog: &Prog, options: Options) -> Result<Built, CompileFault>
     requires source { IsSource prog.now }
     requires named { AreNamable (program_of prog.now).statics }

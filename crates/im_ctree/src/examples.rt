@@ -14,8 +14,8 @@ pub fn program_example()
     ensures { Spells program_tree program_words }
 {}
 
-/// In `if ( a ) if ( b ) c ; else d ;` the `else` is the inner `if`'s (C11 6.8.4.1), and `do s ; while ( e ) ;` is a
-/// statement, for names that are no typedef names.
+/// In `if ( a ) if ( b ) c ; else d ;` the `else` is the inner `if`'s (C11 6.8.4.1), and `do s ;
+/// while ( e ) ;` is a statement, for names that are no typedef names.
 pub fn statement_examples()
     ensures else_of_inner { (names : List Name) (a b c d : Name) → (Contains names a → ⊥)
         → (Contains names b → ⊥) → (Contains names c → ⊥) → (Contains names d → ⊥)
@@ -24,7 +24,8 @@ pub fn statement_examples()
         → (Contains names e → ⊥) → IsStatement names 0 (do_tree s e) (do_words s e) }
 {}
 
-/// `sizeof ( x )` has a type where x is a typedef name, and an expression where it is none (C11 6.5.3).
+/// `sizeof ( x )` has a type where x is a typedef name, and an expression where it is none (C11
+/// 6.5.3).
 pub fn sizeof_examples()
     ensures of_type { (names : List Name) (x : Name) → Contains names x
         → IsExpression names 0 (sizeof_type_tree x) (sizeof_words x) }
@@ -32,7 +33,8 @@ pub fn sizeof_examples()
         → IsExpression names 0 (sizeof_expression_tree x) (sizeof_words x) }
 {}
 
-/// `( f ) ( x )` is a cast where f is a typedef name, and a call where it is none (C11 6.5.2, 6.5.4).
+/// `( f ) ( x )` is a cast where f is a typedef name, and a call where it is none (C11 6.5.2,
+/// 6.5.4).
 pub fn cast_examples()
     ensures cast { (names : List Name) (f x : Name) → Contains names f → (Contains names x → ⊥)
         → IsExpression names 0 (cast_tree f x) (cast_words f x) }
@@ -46,13 +48,15 @@ pub fn parameter_example()
         → IsParameter names 0 int_specifiers (parameter_tree t) (parameter_words t) }
 {}
 
-/// `a = b ? c : d = e` is no expression, whatever its names are: the left side of an assignment is unary (C11 6.5.16).
+/// `a = b ? c : d = e` is no expression, whatever its names are: the left side of an assignment is
+/// unary (C11 6.5.16).
 pub fn assignment_example()
     ensures { (names : List Name) (a b c d e : Name) (p : ℕ) (expression : tree.Expression)
         → IsExpression names p expression (assignment_words a b c d e) → ⊥ }
 {}
 
-/// In `{ typedef int t ; t x ; }` the second t is the type of x (C11 6.7.8), and t is a typedef name behind the block too.
+/// In `{ typedef int t ; t x ; }` the second t is the type of x (C11 6.7.8), and t is a typedef
+/// name behind the block too.
 pub fn scope_example()
     ensures derived { (names : List Name) (t x : Name)
         → IsBlock names 0 (scope_tree t x) (scope_words t x) }
@@ -60,7 +64,8 @@ pub fn scope_example()
         ≡ t ∷ names }
 {}
 
-/// `const t ;` declares nothing where t is a typedef name, and `const ( t ) ;` declares t (C11 6.7p3).
+/// `const t ;` declares nothing where t is a typedef name, and `const ( t ) ;` declares t (C11
+/// 6.7p3).
 pub fn declaration_examples()
     ensures nothing { (names : List Name) (t : Name) → Contains names t
         → IsDeclaration names 0 (nothing_tree t) (nothing_words t) }

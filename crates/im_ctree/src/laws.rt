@@ -46,7 +46,8 @@ pub fn unique_expression_law()
         → expression ≡ other }
 {}
 
-/// Words have at most one derivation as specifiers, as a declarator, as a parameter and as a type name (C11 6.7).
+/// Words have at most one derivation as specifiers, as a declarator, as a parameter and as a type
+/// name (C11 6.7).
 pub fn unique_declarator_law()
     ensures specifiers { (names : List Name) (p : ℕ) (specifiers other : tree.Specifiers)
         (words : List Word) → IsSpecifiers names p specifiers words
@@ -65,7 +66,8 @@ pub fn unique_declarator_law()
         → type_name ≡ other }
 {}
 
-/// Words have at most one derivation as a declaration and as a statement, and a text spells at most one tree: the grammar is unambiguous (C11 6.7 to 6.9).
+/// Words have at most one derivation as a declaration and as a statement, and a text spells at most
+/// one tree: the grammar is unambiguous (C11 6.7 to 6.9).
 pub fn unique_unit_law()
     ensures declaration { (names : List Name) (p : ℕ) (declaration other : tree.Declaration)
         (words : List Word) → IsDeclaration names p declaration words

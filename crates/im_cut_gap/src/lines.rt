@@ -7,7 +7,8 @@ use im_block::{Exit, Line};
 use im_num::{Cause, Kind, NoMemory};
 use std::alloc::Global;
 
-/// The lines of a block with the cuts that are due, and the greatest cost of a path behind its exit, by that at its start.
+/// The lines of a block with the cuts that are due, and the greatest cost of a path behind its
+/// exit, by that at its start.
 pub(crate) fn cut_lines(
     alloc: Global,
     lines: &[Line],
@@ -46,7 +47,8 @@ fn cut_line(
     Ok(spent)
 }
 
-/// The cost behind the next line or exit. Where it would be more than `most`, a cut is put before that.
+/// The cost behind the next line or exit. Where it would be more than `most`, a cut is put before
+/// that.
 fn spend(
     cut: &mut Vec<Line>,
     step: u32,

@@ -6,8 +6,8 @@ use im_block::{Block, Exit, Function};
 use im_num::NoMemory;
 use std::alloc::Global;
 
-/// For each block the greatest cost of a path to its start, as far as it is known before the sweep: sections begin at the entry,
-/// and before each loop edge.
+/// For each block the greatest cost of a path to its start, as far as it is known before the sweep:
+/// sections begin at the entry, and before each loop edge.
 pub(crate) fn start_costs(alloc: Global, function: &Function) -> Result<Vec<Option<u32>>, NoMemory>
     ensures starts { IfOk result (λ costs. AreStarts function.now.entry function.now.blocks.items costs.items) }
     ensures len { IfOk result (λ costs. length costs.items ≡ length function.now.blocks.items) }

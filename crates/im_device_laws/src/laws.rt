@@ -15,7 +15,8 @@ pub fn loaded_law()
     ensures { LoadedLaw }
 {}
 
-/// Register buffer 0 of a loaded memory is the boot buffer of the image's entry and the stack's end.
+/// Register buffer 0 of a loaded memory is the boot buffer of the image's entry and the stack's
+/// end.
 pub fn boot_law()
     ensures { BootLaw }
 {}

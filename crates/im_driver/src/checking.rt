@@ -111,7 +111,8 @@ fn shallow(alloc: Global, source: &[u8], spans: &[(u32, u32)], tree: &Tree) -> R
     }
 }
 
-/// The typed program of a source, or why it has none. Tokens and tree are given back before its end.
+/// The typed program of a source, or why it has none. Tokens and tree are given back before its
+/// end.
 pub(crate) fn typed_program(alloc: Global, source: &[u8]) -> Result<Prog, Refused>
     ensures { MatchResult result (IsReady source.now) (IsRefusedFor source.now) }
 {

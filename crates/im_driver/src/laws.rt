@@ -12,7 +12,8 @@ pub(crate) fn written_law()
     spelt_law();
 }
 
-/// What the checker gives of a source's tree is well typed and within limits, and an image can name its statics.
+/// What the checker gives of a source's tree is well typed and within limits, and an image can name
+/// its statics.
 pub(crate) fn program_law()
     ensures { ProgramLaw }
 {

@@ -53,9 +53,9 @@ fn unmade_named(alloc: Global, prog: &Prog, fault: CompileFault) -> Refused
     }
 }
 
-/// The image of a source as `compile` gives it, or why the source is refused, and of which function,
-/// object or typedef name that is so where parameters, derivations, a type's size or a frame are over
-/// their limits. The typed program stays to the end.
+/// The image of a source as `compile` gives it, or why the source is refused, and of which
+/// function, object or typedef name that is so where parameters, derivations, a type's size or a
+/// frame are over their limits. The typed program stays to the end.
 pub fn compile_named(alloc: Global, source: &[u8], options: Options) -> Result<Built, Refused>
     requires some_stack { 256 ≤ options.stack }
     requires most_stack { options.stack ≤ stack_capacity }

@@ -11,8 +11,8 @@ use im_lex::one_reading;
 use im_rules::laws::{typed_breaks_none_law, typed_once_law};
 use im_rules_asked::laws::{first_excess_law, first_fault_law, units_agree_law};
 
-/// A source has one program at most. Of a right source, within the limits by its own counts, no fault but want of memory is
-/// true.
+/// A source has one program at most. Of a right source, within the limits by its own counts, no
+/// fault but want of memory is true.
 pub fn right_source_law()
     ensures one { OneProgramLaw }
     ensures right { RightLaw }
@@ -41,9 +41,9 @@ pub fn source_typed_law()
     first_excess_law();
 }
 
-/// The first fault of a source's unit is computed, and the first excess. Where there is neither, the
-/// source has the program that is computed too; a source with a program has no fault, and one that
-/// is refused for a rule has one.
+/// The first fault of a source's unit is computed, and the first excess. Where there is neither,
+/// the source has the program that is computed too; a source with a program has no fault, and one
+/// that is refused for a rule has one.
 pub fn source_faults_law()
     ensures faultless { FaultlessHasProgramLaw }
     ensures none { ProgramHasNoFaultLaw }

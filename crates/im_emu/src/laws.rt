@@ -1,7 +1,7 @@
 ghost use Rattle.im_emu.specs.Laws.{PeriodsLaw, PlaceLaw};
 
-/// Periods of power in two parts: the second part goes on from what the first left, counts that have
-/// reached their type's end included.
+/// Periods of power in two parts: the second part goes on from what the first left, counts that
+/// have reached their type's end included.
 pub fn periods_law()
     ensures { PeriodsLaw }
 {}

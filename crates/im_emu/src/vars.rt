@@ -91,7 +91,7 @@ fn cell_at<M: Memory>(memory: &M, objects: &[Object], kind: Kind, at: u32) -> Ce
     match kind {
         Kind::Ptr => pointer_at(objects, number),
         Kind::I8 | Kind::U8 | Kind::I16 | Kind::U16 | Kind::I32 | Kind::U32 => {
-            CellValue::Number(of_word(kind, number) as i128)
+            CellValue::Number(of_word(kind, number))
         }
     }
 }

@@ -17,7 +17,7 @@ use im_num::NoMemory;
 use std::alloc::Global;
 
 /// The status that a program ends with, by what `main` gave.
-fn status_of(found: &Found) -> i64
+fn status_of(found: &Found) -> i128
     ensures { result ≡ programs.status_of (values found.now) }
 {
     match found.get(0) {
@@ -32,7 +32,7 @@ fn end_of(
     code: Code,
     machine: Machine,
     reason: Reason,
-    status: i64,
+    status: i128,
 ) -> Result<Outcome, NoMemory>
     requires { HasKnownTypes code.prog.now }
     ensures { IfOk result (λ outcome. (last : ℕ) (store : Store)

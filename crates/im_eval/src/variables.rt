@@ -18,17 +18,14 @@ use im_num::{CellValue, NoMemory, Var};
 use im_typed::{Object, Static};
 use std::alloc::Global;
 
-/// What a cell without a value shows: no value of any kind.
-const NO_VALUE: i128 = 1 << 32;
-
 /// A value as an end shows it.
 fn cell_shown(value: Value) -> Result<CellValue, NoMemory>
     ensures { IfOk result (λ cell. cell ≡ outcomes.cell_shown (shown value)) }
 {
     match value {
-        Value::Number(number) => Ok(CellValue::Number(number.value as i128)),
+        Value::Number(number) => Ok(CellValue::Number(number.value)),
         Value::Null => Ok(CellValue::Null),
-        Value::Unset => Ok(CellValue::Number(NO_VALUE)),
+        Value::Unset => Ok(CellValue::NoValue),
         Value::Pointer(place) => {
             if place.object.activation != 0 {
                 return Ok(CellValue::Local);

@@ -16,11 +16,11 @@ use Rattle.im_eval_store.specs.Shown.{shown}
 use Rattle.im_typed.specs.declared.expression.Change.{Change}
 use Rattle.im_typed.specs.Program.{Scalar}
 use Rattle.im_typed.specs.Runs.{State, Answer, Run, ◌>>=◌, goes_on, give, checked, leave_store}
-use Rattle.im_typed.specs.Values.{Values, cells_of, scalar, used, value_in, read_at, write_at, changed, changed_kind}
+use Rattle.im_typed.specs.Values.{Values, cells_of, scalar, used, value_in, read_at, write_at, changed_kind}
 use Rattle.im_eval_machine.specs.Shown.{Finds, IsStep, IsLook, one, shown_all, values}
 use Rattle.im_eval_machine.specs.Accesses.{ReadsCells}
 use Rattle.im_eval_machine.specs.declared.stopped.Stopped.{Stopped}
-use Rattle.im_eval_machine.specs.Steps.{changes}
+use Rattle.im_eval_machine.specs.Steps.{altered, changes}
 use Rattle.im_eval_machine.specs.declared.machine.Machine.{Machine}
 use Rattle.im_eval_machine.specs.declared.stopped.Stopped.TheVariants.{Undefined, MoreFuel, StackExhausted, OutOfMemory}
 use Rattle.std.proofs.lemmas.List.{append-nil}
@@ -137,7 +137,7 @@ shown-more (w ∷ vs) v = ap (λ ws. shown w ∷ ws) (shown-more vs v)
 
 -- a change of what stands at a place
 
-module _ (m : Machine) (memory : Memory) (by : Change) (before : o.Value) (z : ℤ) (at : o.Value) (after : Value) (computed : (last : ℕ) (store : Store) → Holds m.memory last store → changed by before z store ≡ Fine (shown after)) where
+module _ (m : Machine) (memory : Memory) (by : Change) (before : o.Value) (z : ℤ) (at : o.Value) (after : Value) (computed : (last : ℕ) (store : Store) → Holds m.memory last store → altered by before z store ≡ Fine (shown after)) where
   pub change-bad : (why : causes.Undefined) → ((last : ℕ) (store : Store) → Holds m.memory last store → at_place at (λ q offset. write_cell store q offset (changed_kind by) (shown after)) ≡ Bad why)
       → IsStep {R = Value} one (Err (Undefined why)) m (record m { memory = memory }) (changes by before z at)
   change-bad why bad = record {

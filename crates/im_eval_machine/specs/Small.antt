@@ -1,13 +1,14 @@
--- A program whose constants are of at most 64 bits. A well-typed program is one.
-use Rattle.std.specs.Prelude.{◌^◌, ◌&&◌, map, ℤ, pos, neg_ℤ, int_lt, if◌then◌else◌}
+-- A program whose constants are of at most 64 bits and a sign. A well-typed program is one.
+use Rattle.std.specs.Prelude.{map, ℤ, pos, if◌then◌else◌}
 use Rattle.std.specs.Option.{option_map}
+use Rattle.im_store.specs.Numbers.{is_small}
 use Rattle.im_store.specs.Objects as o
 use Rattle.im_store.specs.Statics.{StaticObject}
 use Rattle.im_typed.specs.Program.{Place, Static, Local, Target, Member, Expr, Constant, NullPointer, Read, Address, Convert, Unary, Binary, Move, MoveBy, Distance, Compare, Not, And, Or, Choose, Comma, Discard, Assign, Update, Increment, Part, Call, Serve, no_argument, an_argument, Exprs, no_exprs, more_exprs, Piece, Stmt, Do, Forget, Initialise, Block, If, While, DoWhile, For, Switch, Break, Continue, Return, Stmts, no_stmts, more_stmts, Func, Prog}
 
 -- a number that the operators take; 0 in the place of one with more bits
 abbrev pub small : ℤ → ℤ
-small z = if int_lt (neg_ℤ (pos (2 ^ 63))) z && int_lt z (pos (2 ^ 63)) then z else pos 0
+small z = if is_small z then z else pos 0
 
 abbrev mutual
   pub small_place : Place → Place

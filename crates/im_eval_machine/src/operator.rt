@@ -6,6 +6,7 @@ ghost use Rattle.im_eval_store.specs.Shown.{Checks, shown};
 ghost use Rattle.im_typed.specs.Values as typed_values;
 ghost use Rattle.im_eval_machine.specs.Operators.{gives};
 ghost use Rattle.im_eval_machine.specs.Small as small_numbers;
+ghost use Rattle.im_eval_machine.specs.Steps.{altered};
 
 use im_eval_store::{Memory, Value};
 use im_num::Kind;
@@ -45,12 +46,9 @@ pub enum Last {
 pub fn small(value: i128) -> Number
     ensures { result.value ≡ small_numbers.small value }
 {
-    if value > i64::MIN as i128 && value <= i64::MAX as i128 {
-        Number {
-            value: value as i64,
-        }
-    } else {
-        Number::ZERO
+    match Number::of(value) {
+        Some(number) => number,
+        None => Number::ZERO,
     }
 }
 
@@ -101,7 +99,7 @@ pub fn finished(memory: &Memory, last: Last, value: Value) -> Result<Value, Unde
 /// What a change makes of the old value (C11 6.5.16.2).
 pub fn changed(memory: &Memory, change: Change, old: Value, by: Number) -> Result<Value, Undefined>
     ensures { (last : ℕ) (store : Store) → Holds memory.now last store
-        → Checks result (typed_values.changed change (shown old) by.value store) }
+        → Checks result (altered change (shown old) by.value store) }
 {
     match change {
         Change::Number { kind, op, at } => {

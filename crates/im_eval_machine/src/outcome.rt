@@ -24,7 +24,7 @@ pub enum Outcome {
     End {
         reason: Reason,
         /// What `main` returned; 0 where the stack is exhausted.
-        status: i64,
+        status: i128,
         output: Vec<u8>,
         /// The statics, in the program's order.
         variables: Vec<Var>,

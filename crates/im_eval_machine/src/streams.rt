@@ -62,7 +62,9 @@ fn next_byte(machine: &mut Machine) -> Number
 fn byte_number(byte: u8) -> Number
     ensures { result.value ≡ pos byte }
 {
-    Number { value: byte as i64 }
+    Number {
+        value: byte as i128,
+    }
 }
 
 #[tactic(auto, unfolding(im_num::specs::Kinds::wrap))]

@@ -5,8 +5,8 @@ use Rattle.im_ctype.specs.Table.{Table}
 use Rattle.im_store.specs.Objects.{Value}
 use Rattle.im_typed.specs.declared.expression.Change.{Change}
 use Rattle.im_typed.specs.Program.{Scalar}
-use Rattle.im_typed.specs.Runs.{State, Answer, Run, ◌>>=◌, checked, in_store}
-use Rattle.im_typed.specs.Values.{Values, scalar, number_of, changed, changed_kind, write_at}
+use Rattle.im_typed.specs.Runs.{State, Answer, Run, ◌>>=◌, checked}
+use Rattle.im_typed.specs.Values.{Values, computes, scalar, number_of, changed, changed_kind, write_at}
 use Rattle.im_eval_machine.specs.declared.here.Here.{Here}
 use Rattle.im_eval_machine.specs.declared.code.Code.{Code}
 use Rattle.im_eval_machine.specs.declared.machine.Machine.{Machine}
@@ -25,7 +25,7 @@ types_of code = code.prog.now.types
 -- what stands at a place is changed by the number that a value is, once its old value was read
 abbrev pub changes_to : Change → Value → Value → Value → Run Values
 changes_to by before at v =
-    checked (number_of v) >>= (λ z. in_store (changed by before z) >>= (λ w.
+    checked (number_of v) >>= (λ z. changed computes by before z >>= (λ w.
     write_at (Scalar (changed_kind by)) at (w ∷ []) >>= (λ _. scalar w)))
 
 module _ (code : Code) (n : ℕ) where

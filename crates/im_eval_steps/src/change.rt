@@ -1,6 +1,6 @@
 ghost use Rattle.std.specs.Prelude.{pos};
 ghost use Rattle.im_typed.specs.Runs.{give};
-ghost use Rattle.im_typed.specs.Values.{update};
+ghost use Rattle.im_typed.specs.Values.{computes, update};
 ghost use Rattle.im_eval_store.specs.Shown.{shown};
 ghost use Rattle.im_eval_machine.specs.Shown.{IsStep, one};
 ghost use Rattle.im_eval_steps.specs.Going.{changes_to};
@@ -18,7 +18,7 @@ pub(crate) fn increment(
     place: Value,
 ) -> Result<Value, Stopped>
     ensures { IsStep one result machine.old machine.new
-        (update change old (give (pos 1)) (shown place)) }
+        (update computes change old (give (pos 1)) (shown place)) }
 {
     let before = before_change(machine, change, place)?;
     let after = change_by(machine, change, place, before, Number::ONE)?;

@@ -79,7 +79,8 @@ impl<'p> Memory<'p> {
         }
     }
 
-    /// The place at an offset of the object of a place, within the object or at its end (C11 6.5.6).
+    /// The place at an offset of the object of a place, within the object or at its end (C11
+    /// 6.5.6).
     pub fn within(&self, place: Place, offset: i128) -> Result<Value, Undefined>
         ensures { (last : ℕ) (store : Store) → Holds self.now last store
             → Checks result (within store (object_of place.object) offset) }

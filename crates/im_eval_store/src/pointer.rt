@@ -104,10 +104,10 @@ impl Place {
             return Err(Undefined::UnrelatedPointers);
         }
         let left = Number {
-            value: self.offset as i64,
+            value: self.offset as i128,
         };
         let right = Number {
-            value: other.offset as i64,
+            value: other.offset as i128,
         };
         Ok(compared(op, left, right))
     }
@@ -121,7 +121,7 @@ impl Place {
         if !self.object.is(other.object) {
             return Err(Undefined::UnrelatedPointers);
         }
-        let bytes = self.offset as i64 - other.offset as i64;
+        let bytes = self.offset as i128 - other.offset as i128;
         if size == 0 {
             return if bytes == 0 {
                 Ok(Number::ZERO)
@@ -129,11 +129,11 @@ impl Place {
                 Err(Undefined::UnrelatedPointers)
             };
         }
-        if bytes % size as i64 != 0 {
+        if bytes % size as i128 != 0 {
             return Err(Undefined::UnrelatedPointers);
         }
         Ok(Number {
-            value: bytes / size as i64,
+            value: bytes / size as i128,
         })
     }
 }
@@ -144,12 +144,13 @@ fn bytes_moved(size: u32, back: bool, by: Number) -> i128
     ensures low { neg_ℤ (pos (2 ^ 100)) ≤ℤ result }
     ensures high { result ≤ℤ pos (2 ^ 100) }
 {
-    let bytes = by.value as i128 * size as i128;
+    let bytes = by.value * size as i128;
     if back { -bytes } else { bytes }
 }
 
 impl<'p> Memory<'p> {
-    /// A pointer moved by so many elements of `size` bytes, to lower offsets if `back` (C11 6.5.6p8).
+    /// A pointer moved by so many elements of `size` bytes, to lower offsets if `back` (C11
+    /// 6.5.6p8).
     pub fn moved(
         &self,
         size: u32,

@@ -78,7 +78,7 @@ module _ (types : Table) (g : Setting) (n : ℕ) (h : Here) (next : Completion �
       sym (assoc (place_of c a s) (λ v. value_of c (operand_in types e) >>= (λ vs. used vs >>= (λ _. write_at (access_of types x) v vs))) on)
 
   pub increment_ : (a : p.Place) (change : Change) (old : Bool) → goes_on (place_of c a s) (at_place (at.Increment change old)) ≡ goes_on (value_of c (p.Increment a change old) s) on
-  increment_ a change old = sym (assoc (place_of c a s) (update change old (give (pos 1))) on)
+  increment_ a change old = sym (assoc (place_of c a s) (update c.operates change old (give (pos 1))) on)
 
   -- operators of one operand
 

@@ -8,11 +8,11 @@ use Rattle.im_store.specs.Pointers.{holds}
 use Rattle.im_typed.specs.declared.expression.Expr.{Expr}
 use Rattle.im_typed.specs.Program as p
 use Rattle.im_typed.specs.Runs.{State, Fails, Starves, Exhausts, Answer, Gives, Stops, Run, ◌>>=◌, give, either, with_fuel}
-use Rattle.im_typed.specs.Values.{Values, used}
+use Rattle.im_typed.specs.Values.{Values, computes, used}
 use Rattle.im_typed.specs.Meaning.{Around, Flow, Next, after_turn, turns, decides, value_of, does}
 use Rattle.im_typed.specs.Programs.{Setting, called, calls_of}
 use Rattle.im_typed.proofs.Related.{more, Linked, Related, rel-bind, rel-give, rel-down, rel-paid-suc, rel-paid-zero, tame-starve}
-use Rattle.im_typed.proofs.Parts.{rel-decides, rel-after_turn}
+use Rattle.im_typed.proofs.Parts.{rel-computes, rel-decides, rel-after_turn}
 use Rattle.im_typed.proofs.Induction.{RelatedCalls, rel-value, rel-does, rel-turns}
 use Rattle.im_typed.proofs.Whole.{rel-calls}
 use Rattle.im_eval_machine.specs.declared.here.Here.{Here}
@@ -60,10 +60,10 @@ module _ (types : Table) (g : Setting) (n : ℕ) (h : Here) where
   same_calls = rel-calls g 0 n n n (omega arith) (omega arith)
 
   same_value : (e : p.Expr) → Related 0 n (value_of c e) (value_of c e)
-  same_value e = rel-value 0 n h.activation h.depth h.first g.capacity (calls_of g n) (calls_of g n) same_calls e
+  same_value e = rel-value 0 n h.activation h.depth h.first g.capacity (calls_of g n) (calls_of g n) computes computes same_calls (rel-computes 0 n) e
 
   same_does : (s : p.Stmt) → Related 0 n (does c n s) (does c n s)
-  same_does s = rel-does 0 n h.activation h.depth h.first g.capacity (calls_of g n) (calls_of g n) same_calls n n (omega arith) (omega arith) s
+  same_does s = rel-does 0 n h.activation h.depth h.first g.capacity (calls_of g n) (calls_of g n) computes computes same_calls (rel-computes 0 n) n n (omega arith) (omega arith) s
 
   same_steps : (step : Option (Bor Expr)) → Related 0 n (steps types c n step) (steps types c n step)
   same_steps None = rel-give _

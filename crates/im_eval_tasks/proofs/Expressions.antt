@@ -38,7 +38,7 @@ module _ (types : Table) (g : Setting) (n : ℕ) (h : Here) (next : Completion �
   pub update_ : (a : p.Place) (change : Change) (e : Bor (Box Expr Global))
       → goes_on (place_of c a s) (place_goes types g n h (task.At (at.Update change e)) next) ≡ goes_on (value_of c (p.Update a change (operand_in types e)) s) on
   update_ a change e =
-      sym (assoc (place_of c a s) (update change false (number_in (value_of c (operand_in types e)))) on)
+      sym (assoc (place_of c a s) (update c.operates change false (number_in (value_of c (operand_in types e)))) on)
 
   -- the number of elements comes behind the pointer
   pub moved : (size : ℕ) (back : Bool) (at : Held) (e : p.Expr)

@@ -13,10 +13,10 @@ use Rattle.im_typed.specs.Program.{Place, Static, Local, Target, Member, Expr, C
 use Rattle.im_typed.specs.Typing.{Each, IsInteger, IsTypedPlace, IsTyped, AreArguments, IsPieceOf, IsReturned, IsTypedStmt, AreTyped, IsTypedFunc, IsFirstValue, AreFirstValues, IsTypedStatic, IsWellTyped, cells_at, parameters}
 use Rattle.im_eval_machine.specs.Small.{small, small_place, small_expr, small_exprs, small_piece, small_stmt, small_stmts, small_func, small_value, small_static, small_prog}
 
-within : (m : ℕ) → m < 2 ^ 63 → small (pos m) ≡ pos m
+within : (m : ℕ) → m < 2 ^ 64 → small (pos m) ≡ pos m
 within m h = search rules
 
-within-neg : (m : ℕ) → m + 1 < 2 ^ 63 → small (negsuc m) ≡ negsuc m
+within-neg : (m : ℕ) → m + 1 < 2 ^ 64 → small (negsuc m) ≡ negsuc m
 within-neg m h = search rules
 
 pub same_number : (kind : Kind) (z : ℤ) → IsInteger kind → IsOfKind kind z → small z ≡ z

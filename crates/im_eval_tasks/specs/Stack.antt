@@ -5,7 +5,7 @@ use Rattle.im_ctype.specs.Table.{Table}
 use Rattle.im_store.specs.declared.undefined.Undefined as causes
 use Rattle.im_store.specs.Objects as o
 use Rattle.im_store.specs.Pointers.{member_at}
-use Rattle.im_typed.specs.Runs.{State, Fails, Answer, Stops, Run, ◌>>=◌, give, look, change, with_fuel, checked, in_store}
+use Rattle.im_typed.specs.Runs.{State, Fails, Answer, Stops, Run, ◌>>=◌, give, change, with_fuel, checked, in_store}
 use Rattle.im_typed.specs.Values.{Values, scalar, number_of, used, write_at, changed, changed_kind}
 use Rattle.im_typed.specs.Meaning.{Around, Flow, Next as NextFlow, change_store, does, forgotten, local, served, place_of, value_of}
 use Rattle.im_typed.specs.Program.{Scalar}
@@ -46,7 +46,7 @@ module _ (types : Table) (g : Setting) (n : ℕ) where
   operates h (Choose a b) v = chooses types (in_activation h) a b v
   operates h (Serve service) v = serves types (in_activation h) service v
   operates h (Change at by before) v =
-      checked (number_of v) >>= (λ z. in_store (changed by (shown before) z) >>= (λ w.
+      checked (number_of v) >>= (λ z. changed (in_activation h).operates by (shown before) z >>= (λ w.
       write_at (Scalar (changed_kind by)) (shown at) (w ∷ []) >>= (λ _. scalar w)))
   operates h (Argument call) v = takes_argument types (in_activation h) call v
   operates h Target v = scalar v

@@ -1,11 +1,9 @@
 -- What tasks mean: what is still to do in an activation, in the terms of the meaning of programs.
-use Rattle.std.specs.Prelude.{ℕ, List, [], ◌∷◌, ◌++◌, map, drop, take, length, ℤ, pos, Option, Some, None, true, false, not, if◌then◌else◌}
+use Rattle.std.specs.Prelude.{ℕ, List, [], ◌∷◌, ◌++◌, map, drop, take, length, ℤ, pos, Option, Some, None, true, false}
 use denote.Bor.{Bor}
 use Rattle.std.specs.Prelude.{Box}
 use Rattle.std.specs.declared.alloc.Global.{Global}
 use Rattle.im_ctype.specs.Table.{Table}
-use Rattle.im_store.specs.Checks.{Checked, Fine, then_}
-use Rattle.im_store.specs.Numbers.{apply, apply_one}
 use Rattle.im_store.specs.Objects as o
 use Rattle.im_store.specs.Objects.{Store}
 use Rattle.im_store.specs.Pointers.{moved_by, bytes_moved, distance, compare_values, holds}
@@ -73,7 +71,7 @@ module _ (types : Table) where
     -- an operator with its right operand, from the value of its left one on
     abbrev pub lefts : Left → Bor (Box Expr Global) → o.Value → Run Values
     lefts (left.Binary op k) b v =
-        checked (number_of v) >>= (λ x. number_in (value_of c (operand_in b)) >>= (λ y. checked (apply op k x y) >>= number))
+        checked (number_of v) >>= (λ x. number_in (value_of c (operand_in b)) >>= (λ y. c.operates op k x y >>= number))
     lefts (left.Move size back) b v =
         number_in (value_of c (operand_in b)) >>= (λ n. in_store (λ store. moved_by store (bytes_moved size back n) v) >>= scalar)
     lefts (left.MoveBy size) b v =
@@ -105,8 +103,8 @@ module _ (types : Table) where
     ats (Read x) at = read_at (access_of types x) at
     ats Address at = scalar at
     ats (Assign x e) at = value_of c (operand_in e) >>= (λ vs. used vs >>= (λ _. write_at (access_of types x) at vs))
-    ats (Update change e) at = update change false (number_in (value_of c (operand_in e))) at
-    ats (Increment change old) at = update change old (give (pos 1)) at
+    ats (Update change e) at = update c.operates change false (number_in (value_of c (operand_in e))) at
+    ats (Increment change old) at = update c.operates change old (give (pos 1)) at
 
     -- a call, once some of its arguments are there: the others are evaluated
     abbrev pub calls_on : Call → Run Values

@@ -18,7 +18,7 @@ fn entry(cases: &[Case], number: Number, otherwise: u32) -> u32
     ensures { result ≡ entered number.value cases.now otherwise }
 {
     'labels: for case in cases {
-        if case.value == number.value as i128 {
+        if case.value == number.value {
             return case.at;
         }
     }

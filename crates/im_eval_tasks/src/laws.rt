@@ -6,7 +6,8 @@ pub fn small_view_law()
     ensures { SmallViewLaw }
 {}
 
-/// A loop goes on with its test, under the same bound of its turns, where that is at least the fuel.
+/// A loop goes on with its test, under the same bound of its turns, where that is at least the
+/// fuel.
 pub fn turn_law()
     ensures { TurnLaw }
 {}

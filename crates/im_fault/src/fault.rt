@@ -10,15 +10,17 @@ pub enum LineFault {
     OpenLiteral,
     /// A backslash with no escape behind it, or with one whose value is over 255.
     BadEscape,
-    /// A number that is no integer constant, or whose value no type of its list holds (C11 6.4.4.1).
+    /// A number that is no integer constant, or whose value no type of its list holds (C11
+    /// 6.4.4.1).
     BadNumber,
     /// A `#` that is no line marker.
     BadDirective,
-    /// A token that no unit goes on with, or the end of the text where a unit isn't complete (C11 6.9).
+    /// A token that no unit goes on with, or the end of the text where a unit isn't complete (C11
+    /// 6.9).
     Syntax,
     /// A token nested more than 200 deep.
     Nesting,
-    /// A token with which links pass 512: parentheses, brackets and commas that open one behind the other.
+    /// A token with which links pass 512: opening parentheses and brackets, and comma operators.
     Links,
     /// A node that breaks the typing rule of that number.
     Rule(u32),
@@ -39,8 +41,8 @@ pub enum Quantity {
     Frame,
     /// Bytes of the code, at most 1044480.
     Code,
-    /// Pointers, arrays and functions that the type of one typedef name is derived by (C11 6.2.5p20), at
-    /// most 250.
+    /// Pointers, arrays and functions that the type of one typedef name is derived by (C11
+    /// 6.2.5p20), at most 250.
     Derivations,
 }
 

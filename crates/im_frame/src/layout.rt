@@ -5,8 +5,8 @@ use crate::fault::FrameFault;
 use im_block::{Function, Object};
 use std::alloc::Global;
 
-/// Where the parts of a frame lie, in bytes from its lowest address: the return address at 0, slot n
-/// at 8 + 8n, the objects behind the slots. Behind each part is a byte that nothing uses.
+/// Where the parts of a frame lie, in bytes from its lowest address: the return address at 0, slot
+/// n at 8 + 8n, the objects behind the slots. Behind each part is a byte that nothing uses.
 #[derive(Drop)]
 pub struct Layout {
     /// The bytes of the frame, a multiple of 4.

@@ -13,7 +13,8 @@ use std::alloc::Global;
 /// The most bytes of a source.
 const LIMIT: usize = 4_194_304;
 
-/// The tree that the tokens of a source spell, and the bytes of each token: from the first place on, up to before the second.
+/// The tree that the tokens of a source spell, and the bytes of each token: from the first place
+/// on, up to before the second.
 #[derive(Drop)]
 pub struct Text {
     pub spans: Vec<(u32, u32)>,
@@ -97,8 +98,9 @@ fn lexed(alloc: Global, source: &[u8]) -> Result<Vec<Token>, SourceFault>
     }
 }
 
-/// The tree of a source (C11 6.4, 6.9) and where its tokens stand, or why it has none: its length is looked at
-/// first, then its tokens, their nesting, and the unit, or their links where these pass their limit first.
+/// The tree of a source (C11 6.4, 6.9) and where its tokens stand, or why it has none: its length
+/// is looked at first, then its tokens, their nesting, and the unit, or their links where these
+/// pass their limit first.
 pub fn read_source(alloc: Global, source: &[u8]) -> Result<Text, SourceFault>
     ensures { IsRead source.now result }
 {

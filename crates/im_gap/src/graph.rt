@@ -1,7 +1,8 @@
 ghost use Rattle.std.specs.Prelude.{◌≡◌, ◌<◌, ◌≤◌, ◌^◌, length};
 ghost use Rattle.im_gap.specs.Graph.{successors_of, weight_of, IsGraph};
 
-/// A node leads to the targets from `first` on, up to `end`; it counts in the cost of a walk or not.
+/// A node leads to the targets from `first` on, up to `end`; it counts in the cost of a walk or
+/// not.
 #[derive(Clone, Copy, Debug)]
 pub struct Node {
     pub first: u32,

@@ -36,8 +36,8 @@ fn period_of(gap: u32, word: u32) -> Period
     }
 }
 
-/// The periods under which the source of so many functions is run. `gap` is K, the longest gap of its
-/// image in instructions.
+/// The periods under which the source of so many functions is run. `gap` is K, the longest gap of
+/// its image in instructions.
 pub fn trace(alloc: Global, count: u32, gap: u32) -> Result<Trace, NoMemory>
     requires { gap < 2 ^ 31 }
     ensures { IfOk result (λ periods. periods ≡ gen_trace count gap) }

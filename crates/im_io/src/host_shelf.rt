@@ -11,7 +11,8 @@ pub enum Open<F> {
     Writing(F),
 }
 
-/// The host's files. It tells nothing of what they hold, and counts the calls that the host refuses.
+/// The host's files. It tells nothing of what they hold, and counts the calls that the host
+/// refuses.
 #[derive(Drop)]
 pub struct HostShelf<R: Files> {
     files: R,

@@ -33,7 +33,8 @@ impl Model for MemFile {
 }
 
 impl MemFile {
-    /// A file with these bytes, or none, and room for so many bytes, at least for those that it has.
+    /// A file with these bytes, or none, and room for so many bytes, at least for those that it
+    /// has.
     pub(crate) fn new(
         alloc: Global,
         name: &str,
@@ -108,8 +109,8 @@ impl MemFile {
         self.is_there = true;
     }
 
-    /// Writes the first bytes of a piece to the file's end, as many as there is room for. It refuses a
-    /// piece for which no room is left.
+    /// Writes the first bytes of a piece to the file's end, as many as there is room for. It
+    /// refuses a piece for which no room is left.
     pub(crate) fn write(&mut self, piece: &[u8]) -> Result<usize, Failed>
         requires there { IsTrue (is_some self.old.content) }
         ensures fits { Fits piece.now result }

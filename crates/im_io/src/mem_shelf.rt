@@ -19,9 +19,9 @@ pub enum Place {
     Writing { file: usize },
 }
 
-/// A shelf of files in memory, whose names are given when it is made. It takes no memory after that.
-/// It refuses the calls that it is told to refuse, a file of another name, and a piece for which a
-/// file has no room left.
+/// A shelf of files in memory, whose names are given when it is made. It takes no memory after
+/// that. It refuses the calls that it is told to refuse, a file of another name, and a piece for
+/// which a file has no room left.
 #[derive(Drop)]
 pub struct MemShelf {
     files: Vec<MemFile>,
@@ -79,9 +79,9 @@ impl MemShelf {
     ghost use Rattle.im_io.specs.MemFiles.{files_of, given_file};
     ghost use Rattle.im_io.specs.declared.mem_shelf.Place.TheVariants as place;
 
-    /// A shelf of files, each by its name, the bytes that it has (or none, where it isn't there yet)
-    /// and its room in bytes. Of two files of one name the first counts. `failing` has the numbers of
-    /// the calls to be refused; the first call's number is 1.
+    /// A shelf of files, each by its name, the bytes that it has (or none, where it isn't there
+    /// yet) and its room in bytes. Of two files of one name the first counts. `failing` has the
+    /// numbers of the calls to be refused; the first call's number is 1.
     pub fn new(
         alloc: Global,
         files: &[(String, Option<Vec<u8>>, usize)],

@@ -9,8 +9,8 @@ use im_num::NoMemory;
 use std::alloc::Global;
 use std::marker::Model;
 
-/// A sink that keeps the bytes that it takes, as many as it has room for. It refuses the writes that
-/// it is told to refuse, and those of a piece for which no room is left.
+/// A sink that keeps the bytes that it takes, as many as it has room for. It refuses the writes
+/// that it is told to refuse, and those of a piece for which no room is left.
 #[derive(Drop)]
 pub struct MemSink {
     bytes: Vec<u8>,
@@ -35,8 +35,8 @@ impl Model for MemSink {
 }
 
 impl MemSink {
-    /// A sink with room for so many bytes. `failing` has the numbers of the writes to be refused; the
-    /// first write's number is 1.
+    /// A sink with room for so many bytes. `failing` has the numbers of the writes to be refused;
+    /// the first write's number is 1.
     pub fn new(alloc: Global, room: usize, failing: &[u64]) -> Result<MemSink, NoMemory>
         ensures state { IfOk result (λ sink. ⟦<MemSink as Sink>⟧.state sink
             ≡ record { contents = Some []; faults = 0 }) }

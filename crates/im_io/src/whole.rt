@@ -68,8 +68,8 @@ fn read_open<H: Shelf>(
     }
 }
 
-/// Sends a whole text to a sink. Where a write is refused, the sink has taken the first bytes of the
-/// text alone, and its count says so.
+/// Sends a whole text to a sink. Where a write is refused, the sink has taken the first bytes of
+/// the text alone, and its count says so.
 pub fn send<S: Sink>(sink: &mut S, text: &[u8]) -> Result<(), Failed>
     ensures { Sends text.now result (S.state sink.old) (S.state sink.new) }
 {

@@ -21,8 +21,8 @@ pub(crate) fn kind_in(shape: Option<Access>) -> Kind
     }
 }
 
-/// Puts the comparisons of the value in the register `low` with each label in order. Labels go by the
-/// numbers of statements; these begin blocks of the numbers `labels`.
+/// Puts the comparisons of the value in the register `low` with each label in order. Labels go by
+/// the numbers of statements; these begin blocks of the numbers `labels`.
 pub(crate) fn put_cases(
     code: &mut Builder,
     low: u32,

@@ -1,5 +1,5 @@
 -- The lines of services.
-use Rattle.std.proofs.Common.{◌≡◌, ℕ, zero, suc, ◌<◌, List, [], ◌∷◌, refl, sym, ap, ◌∙◌, subst}
+use Rattle.std.proofs.Common.{◌≡◌, ℕ, zero, suc, ◌<◌, [], ◌∷◌, refl, sym, ap, ◌∙◌, subst}
 use Rattle.std.specs.Prelude.{Some, ℤ, pos, slice_get, None}
 use Rattle.im_serve.specs.declared.service.Service.{Service}
 use Rattle.im_serve.specs.Services.{Reply, serve}

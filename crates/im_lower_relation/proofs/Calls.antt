@@ -15,7 +15,8 @@ use Rattle.im_typed.specs.Sound.{IsSoundWorld, FlowFits, ArgumentsFit}
 use Rattle.im_typed.proofs.SoundCalls.{if-true, if-false, each-at, new-shape, begun-sound}
 use Rattle.im_typed.proofs.SoundExprs.{there}
 use Rattle.im_typed.proofs.SoundStmts.{right-does}
-use Rattle.im_typed.proofs.SoundRuns.{right-calls}
+use Rattle.im_typed.proofs.SoundRuns.{right-around}
+use Rattle.im_typed.proofs.Parts.{rel-computes}
 use Rattle.im_typed.proofs.Induction.{rel-does}
 use Rattle.im_typed.proofs.Whole.{rel-calls}
 use Rattle.im_block.specs.declared.code.Line.TheVariants.{Put, Call}
@@ -121,7 +122,13 @@ module _ (ts : Setting) (u : Code) (input : List ℕ) (typed_program : IsWellTyp
       let c : Around = inside n w i in
       let s : typed.State = at_entry w i f args fuel in
       let t = each-at (IsTypedFunc p) p.funcs i f typed_program.funcs ef in
-      let works : Works u g p c n = record { right = right-calls ts typed_program n; tame = rel-calls ts 0 0 n n (omega arith) (omega arith); capacity = refl; calls = calls } in
+      let works : Works u g p c n = record {
+        right = right-around ts typed_program n a d first;
+        tame = record { calls = rel-calls ts 0 0 n n (omega arith) (omega arith); operates = rel-computes 0 0 };
+        capacity = refl;
+        calls = calls;
+        operates = record { by = λ op kind x y s. refl };
+      } in
       let got = receives u g (within i w callers) (entry_mark code) registers s w (take f.params f.objects) args first 0 func.start func.body
       (begins w.store a d (shapes_of first f.objects)) (begins blocks a d (m.shapes_of code)) fit has
       (subst (λ x. CodesParameters x 0 (take f.params f.objects) func.start func.body) func.first_object func.passed)
@@ -137,7 +144,7 @@ module _ (ts : Setting) (u : Code) (input : List ℕ) (typed_program : IsWellTyp
       joined u g p (within i w callers)
       (record {
         right = right-does p f c works.right n f.body false false s t.3 ready.sane ready.here;
-        spends = (rel-does 0 0 c.activation c.depth c.first c.capacity c.calls c.calls works.tame n n (omega arith) (omega arith) f.body).tame.by s;
+        spends = (rel-does 0 0 c.activation c.depth c.first c.capacity c.calls c.calls c.operates c.operates works.tame.calls works.tame.operates n n (omega arith) (omega arith) f.body).tame.by s;
       })
       (does-later u g p (within i w callers) got.leads
       (statement u g p f c n works i callers code ec func.registers f.params t.1 f.body false false 0 0 (stop f i) (stop f i) func.body (stop f i) (λ x. let e : false ≡ true = x in absurd (cc)) (λ x. let e : false ≡ true = x in absurd (cc))

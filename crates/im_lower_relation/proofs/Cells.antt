@@ -9,18 +9,17 @@ use Rattle.im_store.specs.declared.operators.BinaryOp.{BinaryOp}
 use Rattle.im_store.specs.Checks.{Checked, Fine, Bad, then_}
 use Rattle.im_store.specs.Numbers.{apply}
 use Rattle.im_store.specs.Objects.{Object, Value, Number, Null, Pointer, Unset, Store}
-use Rattle.im_store.specs.Pointers.{bytes_moved}
+use Rattle.im_store.specs.Pointers.{moved_by, bytes_moved}
 use Rattle.im_store.specs.Access.{taken, read_cell, write_cell}
 use Rattle.im_typed.specs.declared.expression.Change.TheVariants.{Number as NumberBy, Move as PointerBy}
 use Rattle.im_typed.specs.Program.{Prog, Scalar}
-use Rattle.im_typed.specs.Runs.{Answer, Run, ◌>>=◌, checked}
+use Rattle.im_typed.specs.Runs.{Answer, Run, ◌>>=◌, give, checked}
 use Rattle.im_typed.specs.Runs as typed
-use Rattle.im_typed.specs.Values.{Values, used, read_at, write_at, changed, scalar}
+use Rattle.im_typed.specs.Values.{Values, Operates, used, read_at, write_at, changed, scalar}
 use Rattle.im_typed.specs.Typing.{IsInteger}
 use Rattle.im_typed.specs.Sound.{IsValue, IsSoundWorld, Fits}
 use Rattle.im_typed.proofs.Parts.{rel-read_at}
 use Rattle.im_typed.proofs.SoundCells.{right-read, moved-value}
-use Rattle.im_typed.proofs.Sounds.{then-fine}
 use Rattle.im_block.specs.declared.code.Place.{Place}
 use Rattle.im_block.specs.declared.code.Line.TheVariants.{Move, Convert, Compute, Read, Write}
 use Rattle.im_block.specs.declared.unit.Unit.{Unit as Code}
@@ -37,19 +36,22 @@ then-cell : (r : Checked Store) (after : Store) → then_ r (λ x. Fine x) ≡ F
 then-cell (Fine x) after e = e
 then-cell (Bad why) after e = absurd (cc)
 
--- what a change of a number gives
+-- operators that give their results at once
+pub record AtOnce (operates : Operates) : Type 0 where
+  pub by : (op : BinaryOp) (kind : Kind) (x y : ℤ) (s : typed.State) → operates op kind x y s ≡ checked (apply op kind x y) s
 
-record Changed (kind : Kind) (op : BinaryOp) (at_kind : Kind) (a b : ℤ) (after : Value) : Type 0 where
-  pub result : ℤ
-  pub fine : apply op at_kind (wrap at_kind a) b ≡ Fine result
-  pub same : after ≡ Number (wrap kind result)
+-- a change of a number is its operator, and a conversion of what this gives
 
-changed-fine : (kind : Kind) (op : BinaryOp) (at_kind : Kind) (first : Value) (a b : ℤ) (store : Store) (after : Value) → first ≡ Number a → changed (NumberBy kind op at_kind) first b store ≡ Fine after → Changed kind op at_kind a b after
-changed-fine kind op at_kind first a b store after is e =
-    let k : then_ (apply op at_kind (wrap at_kind a) b) (λ z. Fine (Number (wrap kind z))) ≡ Fine after = ap (λ x. changed (NumberBy kind op at_kind) x b store) (sym is) ∙ e in
-    let t = then-fine (apply op at_kind (wrap at_kind a) b) (λ z. Fine (Number (wrap kind z))) after k in
-    let last = t.2 in
-    record { result = t.0; fine = t.1; same = cc }
+given-number : {B : Type 0} (r : Checked ℤ) (kind : Kind) (rest : Value → Run B) (s : typed.State) → typed.goes_on (typed.goes_on (checked r s) (λ z. give (Number (wrap kind z)))) rest ≡ typed.goes_on (checked r s) (λ z. rest (Number (wrap kind z)))
+given-number (Fine z) kind rest s = refl
+given-number (Bad why) kind rest s = refl
+
+changed-number : {B : Type 0} (operates : Operates) → AtOnce operates → (kind : Kind) (op : BinaryOp) (at_kind : Kind) (first : Value) (a b : ℤ) (rest : Value → Run B) (s : typed.State) → first ≡ Number a
+    → typed.goes_on (changed operates (NumberBy kind op at_kind) first b s) rest ≡ typed.goes_on (checked (apply op at_kind (wrap at_kind a) b) s) (λ z. rest (Number (wrap kind z)))
+changed-number operates once kind op at_kind first a b rest s is =
+    ap (λ v. typed.goes_on (changed operates (NumberBy kind op at_kind) v b s) rest) is
+    ∙ ap (λ r. typed.goes_on (typed.goes_on r (λ z. give (Number (wrap kind z)))) rest) (once.by op at_kind (wrap at_kind a) b s)
+    ∙ given-number (apply op at_kind (wrap at_kind a) b) kind rest s
 
 changes-same : (op : BinaryOp) (kind : Kind) (v w : Value) (x y z : ℤ) → v ≡ Number x → w ≡ Number y → m.right_of op kind y ≡ y → apply op kind (wrap kind x) y ≡ Fine z → m.as_number (m.computed op kind v w) ≡ Fine (Number z)
 changes-same op kind v w x y z ev ew hy e =
@@ -130,44 +132,45 @@ module _ (u : Code) (g : Setting) (p : Prog) (home : Home) where
       (write-line v place kind access to n next registers store w ws s is came.agrees fits.0 came.has))
 
   -- the lines that change a number: the old one stands in a register, and by how much in another one
-  pub change-lines : (v : Value) (place : Place) (kind : Kind) (op : BinaryOp) (at_kind : Kind) (old : Bool) (access into to by free : ℕ) (n : Mark) (next : Point) (base registers : ℕ → Value) (store : Store) (first : Value) (a b : ℤ) (s : typed.State)
+  pub change-lines : (operates : Operates) → AtOnce operates → (v : Value) (place : Place) (kind : Kind) (op : BinaryOp) (at_kind : Kind) (old : Bool) (access into to by free : ℕ) (n : Mark) (next : Point) (base registers : ℕ → Value) (store : Store) (first : Value) (a b : ℤ) (s : typed.State)
       → IsInteger kind → first ≡ Number a → ((x y : Value) → Designates place v (with_register (with_register registers into x) into y) store) → Agrees s.world.store store
       → registers to ≡ first → registers by ≡ Number b → m.right_of op at_kind b ≡ b
       → ((x : ℕ) → x < free → (x ≡ to → ⊥) → registers x ≡ base x) → ((x : ℕ) → x < free → (x ≡ to → ⊥) → x ≡ into → ⊥)
       → ((x y : Value) → with_register (with_register registers into x) into y to ≡ (if old then first else y))
       → Does u g p home next (at home n (before (Compute into op at_kind to by) (before (Convert into kind into) (before (Write place kind into access) next))) registers store s) (Came base to free)
-      (typed.goes_on (checked (changed (NumberBy kind op at_kind) first b s.world.store) s) (λ after. write_at (Scalar kind) v (after ∷ []) >>= (λ _. scalar (if old then first else after))))
-  change-lines v place kind op at_kind old access into to by free n next base registers store first a b s i is designates agrees has has_by right kept apart shows =
-      does-checked u g p home (changed (NumberBy kind op at_kind) first b s.world.store) s _ (λ after e.
-      let c = changed-fine kind op at_kind first a b s.world.store after is e in
-      let x : Value = Number c.result in
-      let y : Value = Number (wrap kind c.result) in
+      (typed.goes_on (changed operates (NumberBy kind op at_kind) first b s) (λ after. write_at (Scalar kind) v (after ∷ []) >>= (λ _. scalar (if old then first else after))))
+  change-lines operates once v place kind op at_kind old access into to by free n next base registers store first a b s i is designates agrees has has_by right kept apart shows =
+      let stores : Value → Run Values = λ after. write_at (Scalar kind) v (after ∷ []) >>= (λ _. scalar (if old then first else after)) in
+      subst (λ r. Does u g p home next (at home n (before (Compute into op at_kind to by) (before (Convert into kind into) (before (Write place kind into access) next))) registers store s) (Came base to free) r)
+      (sym (changed-number operates once kind op at_kind first a b stores s is))
+      (does-checked u g p home (apply op at_kind (wrap at_kind a) b) s _ (λ z e.
+      let x : Value = Number z in
+      let y : Value = Number (wrap kind z) in
       let one : ℕ → Value = with_register registers into x in
       let two : ℕ → Value = with_register one into y in
-      let now : after ≡ y = c.same in
       does-line u g p home (Compute into op at_kind to by) (before (Convert into kind into) (before (Write place kind into access) next)) n registers store s into (m.as_number (m.computed op at_kind (registers to) (registers by))) x refl
-      (changes-same op at_kind (registers to) (registers by) a b c.result (has ∙ is) has_by right c.fine)
+      (changes-same op at_kind (registers to) (registers by) a b z (has ∙ is) has_by right e)
       (does-line u g p home (Convert into kind into) (before (Write place kind into access) next) n one store s into (m.as_number (m.converted kind (one into))) y refl
       (ap (λ r. m.as_number (m.converted kind r)) (register-same registers into x))
       (does-bind u g p home
-      (write-line v place kind access into n next two store after [] s (designates x y) agrees (subst (IsValue s.world.activations s.world.store kind) (sym now) (i, wrap-of_kind kind c.result)) (register-same one into y ∙ sym now))
+      (write-line v place kind access into n next two store y [] s (designates x y) agrees (i, wrap-of_kind kind z) (register-same one into y))
       (λ vs t m₁ regs left h.
-      stands u g p home (λ _. next) m₁ regs left t ((if old then first else after) ∷ []) (record {
+      stands u g p home (λ _. next) m₁ regs left t ((if old then first else y) ∷ []) (record {
         agrees = h.agrees;
         kept = λ q lt ne. h.kept q ∙ register-other one into q y (apart q lt ne) ∙ register-other registers into q x (apart q lt ne) ∙ kept q lt ne;
-        has = h.kept to ∙ shows x y ∙ ap (λ z. if old then first else z) (sym now);
-      })))))
+        has = h.kept to ∙ shows x y;
+      }))))))
 
   -- the lines that move a pointer
-  pub move-lines : (v : Value) (place : Place) (size : ℕ) (back old : Bool) (access into to by free : ℕ) (n : Mark) (next : Point) (base registers : ℕ → Value) (store : Store) (first : Value) (b : ℤ) (s : typed.State)
+  pub move-lines : (operates : Operates) (v : Value) (place : Place) (size : ℕ) (back old : Bool) (access into to by free : ℕ) (n : Mark) (next : Point) (base registers : ℕ → Value) (store : Store) (first : Value) (b : ℤ) (s : typed.State)
       → IsSoundWorld p.statics s.world → ((x : Value) → Designates place v (with_register registers into x) store) → Agrees s.world.store store
       → registers to ≡ first → registers by ≡ Number b
       → ((x : ℕ) → x < free → (x ≡ to → ⊥) → registers x ≡ base x) → ((x : ℕ) → x < free → (x ≡ to → ⊥) → x ≡ into → ⊥)
       → ((x : Value) → with_register registers into x to ≡ (if old then first else x))
       → Does u g p home next (at home n (before (Move into size back to by) (before (Write place Ptr into access) next)) registers store s) (Came base to free)
-      (typed.goes_on (checked (changed (PointerBy size back) first b s.world.store) s) (λ after. write_at (Scalar Ptr) v (after ∷ []) >>= (λ _. scalar (if old then first else after))))
-  move-lines v place size back old access into to by free n next base registers store first b s sane designates agrees has has_by kept apart shows =
-      does-checked u g p home (changed (PointerBy size back) first b s.world.store) s _ (λ after e.
+      (typed.goes_on (changed operates (PointerBy size back) first b s) (λ after. write_at (Scalar Ptr) v (after ∷ []) >>= (λ _. scalar (if old then first else after))))
+  move-lines operates v place size back old access into to by free n next base registers store first b s sane designates agrees has has_by kept apart shows =
+      does-checked u g p home (moved_by s.world.store (bytes_moved size back b) first) s _ (λ after e.
       let one : ℕ → Value = with_register registers into after in
       does-line u g p home (Move into size back to by) (before (Write place Ptr into access) next) n registers store s into (m.moved store size back (registers to) (registers by)) after refl
       (moved-same store size back (registers to) (registers by) first after b has has_by (agree-moved s.world.store store agrees (bytes_moved size back b) first after e))

@@ -10,7 +10,8 @@ use Rattle.im_typed.specs.Meaning.{Around, Calls, place_of, value_of, values_of}
 use Rattle.im_typed.specs.Typing.{parameters, shape_of, IsTypedPlace, IsTyped, AreArguments}
 use Rattle.im_typed.specs.Sound.{IsValue, IsSoundWorld, IsHere, KeepsWorld, Fits, ArgumentsFit}
 use Rattle.im_typed.proofs.Sounds.{here-kept}
-use Rattle.im_typed.proofs.SoundExprs.{RightCalls, at-shape, right-place, right-value, right-values}
+use Rattle.im_typed.proofs.SoundExprs.{RightAround, at-shape, right-place, right-value, right-values}
+use Rattle.im_typed.proofs.Parts.{RelatedOperates}
 use Rattle.im_typed.proofs.Induction.{RelatedCalls, rel-place, rel-value, rel-values}
 use Rattle.im_block.specs.declared.code.Line.TheVariants.{Call}
 use Rattle.im_block.specs.declared.unit.Registers.TheVariants.{Virtual}
@@ -21,6 +22,7 @@ use Rattle.im_lower_relation.specs.Codes.{Point, before}
 use Rattle.im_lower_relation.specs.Agrees.{Agrees, Home, Mark, at, Does, Came}
 use Rattle.im_lower_relation.proofs.Steps.{Right, Known}
 use Rattle.im_lower_relation.proofs.Uses.{Took}
+use Rattle.im_lower_relation.proofs.Cells.{AtOnce}
 
 -- arguments stand side by side, from a register on
 abbrev pub HasArguments : (ℕ → Value) → ℕ → List Value → Type 0
@@ -42,12 +44,18 @@ pub record CallsDo (u : Code) (g : Setting) (p : Prog) (calls : Calls) (bound : 
       → ArgumentsFit (parameters (slice_get p.funcs i)) s.world vs → IsSoundWorld p.statics s.world → Agrees s.world.store store → s.world.depth ≡ home.active.depth → s.fuel ≤ bound
       → Does u g p home next (at home n (before (Call to i first count) next) registers store s) (Came registers to first) (calls i vs s)
 
--- what is known of what surrounds a body
+-- calls and operators take no fuel back, and output only grows
+pub record TameAround (c : Around) : Type 0 where
+  pub calls : RelatedCalls 0 0 c.calls c.calls
+  pub operates : RelatedOperates 0 0 c.operates c.operates
+
+-- what is known of what surrounds a body; a binary operator gives its result at once
 pub record Works (u : Code) (g : Setting) (p : Prog) (c : Around) (bound : ℕ) : Type 0 where
-  pub right : RightCalls p c.calls
-  pub tame : RelatedCalls 0 0 c.calls c.calls
+  pub right : RightAround p c
+  pub tame : TameAround c
   pub capacity : c.capacity ≡ g.capacity
   pub calls : CallsDo u g p c.calls bound
+  pub operates : AtOnce c.operates
 
 module _ (p : Prog) (f : Func) (c : Around) (bound : ℕ) where
   pub ready-later : {s t : typed.State} {store after : Store} → Ready p f c bound s store → IsSoundWorld p.statics t.world → KeepsWorld s.world t.world → t.fuel ≤ s.fuel → Agrees t.world.store after → Ready p f c bound t after
@@ -61,11 +69,11 @@ module _ (p : Prog) (f : Func) (c : Around) (bound : ℕ) where
   pub ready-took : {kind : _} {s t : typed.State} {store after : Store} {base registers : ℕ → Value} {to free : ℕ} {v : Value} → Ready p f c bound s store → Took p.statics s kind base to free v t registers after → Ready p f c bound t after
   ready-took r took = ready-later r took.sane took.keeps took.spent took.agrees
 
-  module _ (calls : RightCalls p c.calls) (tame : RelatedCalls 0 0 c.calls c.calls) where
+  module _ (inside : RightAround p c) (tame : TameAround c) where
     pub right-of : {store : Store} (e : Expr) (s : typed.State) → IsTyped p f e → Ready p f c bound s store → Right p.statics s (Fits (shape_of p e)) (value_of c e s)
     right-of e s t r = record {
-      right = right-value p f c calls e s t r.sane r.here;
-      spends = (rel-value 0 0 c.activation c.depth c.first c.capacity c.calls c.calls tame e).tame.by s;
+      right = right-value p f c inside e s t r.sane r.here;
+      spends = (rel-value 0 0 c.activation c.depth c.first c.capacity c.calls c.calls c.operates c.operates tame.calls tame.operates e).tame.by s;
     }
 
     pub right-at : {store : Store} (e : Expr) (s : typed.State) {shape : Option Access} → shape_of p e ≡ shape → IsTyped p f e → Ready p f c bound s store → Right p.statics s (Fits shape) (value_of c e s)
@@ -73,12 +81,12 @@ module _ (p : Prog) (f : Func) (c : Around) (bound : ℕ) where
 
     pub right-arguments : {store : Store} (es : Exprs) (os : List LocalObject) (s : typed.State) → AreArguments p f os es → Ready p f c bound s store → Right p.statics s (ArgumentsFit os) (values_of c es s)
     right-arguments es os s t r = record {
-      right = right-values p f c calls es os s t r.sane r.here;
-      spends = (rel-values 0 0 c.activation c.depth c.first c.capacity c.calls c.calls tame es).tame.by s;
+      right = right-values p f c inside es os s t r.sane r.here;
+      spends = (rel-values 0 0 c.activation c.depth c.first c.capacity c.calls c.calls c.operates c.operates tame.calls tame.operates es).tame.by s;
     }
 
     pub right-placed : {store : Store} (a : Place) (s : typed.State) → IsTypedPlace p f a → Ready p f c bound s store → Right p.statics s (λ w v. IsValue w.activations w.store Ptr v) (place_of c a s)
     right-placed a s t r = record {
-      right = right-place p f c calls a s t r.sane r.here;
-      spends = (rel-place 0 0 c.activation c.depth c.first c.capacity c.calls c.calls tame a).tame.by s;
+      right = right-place p f c inside a s t r.sane r.here;
+      spends = (rel-place 0 0 c.activation c.depth c.first c.capacity c.calls c.calls c.operates c.operates tame.calls tame.operates a).tame.by s;
     }

@@ -81,7 +81,7 @@ module _ (u : Code) (g : Setting) (p : q.Prog) (f : q.Func) (c : Around) (bound 
   right-statement : {store : Store} (st : q.Stmt) (breaks continues : Bool) (s : typed.State) → IsTypedStmt p f breaks continues st → IsReady s store → Right p.statics s (FlowFits f.result) (does c bound st s)
   right-statement st breaks continues s t r = record {
     right = right-does p f c works.right bound st breaks continues s t r.sane r.here;
-    spends = (rel-does 0 0 c.activation c.depth c.first c.capacity c.calls c.calls works.tame bound bound (omega arith) (omega arith) st).tame.by s;
+    spends = (rel-does 0 0 c.activation c.depth c.first c.capacity c.calls c.calls c.operates c.operates works.tame.calls works.tame.operates bound bound (omega arith) (omega arith) st).tame.by s;
   }
 
   -- a test decides which of two blocks is next

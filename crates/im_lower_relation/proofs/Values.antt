@@ -1,10 +1,11 @@
 -- Block code of an expression gives the expression's value.
 use Rattle.std.proofs.Common.{◌≡◌, ℕ, suc, ◌+◌, ◌<◌, List, [], ◌∷◌, length, take, drop, true, false, refl, sym, ap, ◌∙◌, subst, arith}
-use Rattle.std.specs.Prelude.{Option, Some, None, pos, not, if◌then◌else◌, slice_get}
+use Rattle.std.specs.Prelude.{Option, Some, None, ℤ, pos, not, if◌then◌else◌, slice_get}
 use Rattle.std.specs.Option.{option_map}
 use Rattle.im_num.specs.declared.kind.Kind.{Kind}
-use Rattle.im_num.specs.declared.kind.Kind.TheVariants.{I32, Ptr}
+use Rattle.im_num.specs.declared.kind.Kind.TheVariants.{Ptr}
 use Rattle.im_num.specs.Kinds.{wrap}
+use Rattle.im_store.specs.declared.operators.BinaryOp.{BinaryOp}
 use Rattle.im_store.specs.Checks.{Fine, then_}
 use Rattle.im_store.specs.Numbers.{apply, apply_one}
 use Rattle.im_store.specs.Objects.{Value, Number, Null, Pointer, Store}
@@ -99,6 +100,11 @@ module _ (u : Code) (g : Setting) (p : q.Prog) (f : q.Func) (c : Around) (bound 
       (arrived u g p home next (moved n₂ j) base rs to free (Number (if holds y then pos 1 else pos 0)) left₂ z took₂.agrees
       (λ i l ne. register-other after₂ free i none (λ e. omega arith) ∙ took₂.kept i (omega arith) (λ e. omega arith) ∙ kept i l ne)))))
 
+  -- an operator gives its result, or the run ends
+  does-operator : {next : Point} {b : State} {Q : Values → typed.State → (ℕ → Value) → Store → Type 0} (op : BinaryOp) (kind : Kind) (x y : ℤ) (t : typed.State) (rest : ℤ → Run Values) → ((z : ℤ) → apply op kind x y ≡ Fine z → Does u g p home next b Q (rest z t)) → Does u g p home next b Q (typed.goes_on (c.operates op kind x y t) rest)
+  does-operator {next} {b} {Q} op kind x y t rest h =
+      subst (λ r. Does u g p home next b Q (typed.goes_on r rest)) (sym (works.operates.by op kind x y t)) (does-checked u g p home (apply op kind x y) t rest h)
+
   -- the values of an expression
   abbrev Gains : q.Expr → (to free : ℕ) → (entry next : Point) → Type 0
   Gains e to free entry next =
@@ -166,7 +172,7 @@ module _ (u : Code) (g : Setting) (p : q.Prog) (f : q.Func) (c : Around) (bound 
         (used-as b v r.1 t.2 (ready-took p f c bound ready took)
         (lowered b (free + 1) (free + 2) codes.0 (before (Compute to op kind free (free + 1)) next) (omega arith) t.2 codes.2 n₁ after left v (ready-took p f c bound ready took)))
         (λ y w n₂ after₂ left₂ hy took₂.
-        does-checked u g p home (apply op kind x y) w _ (λ z e.
+        does-operator op kind x y w _ (λ z e.
         does-line u g p home (Compute to op kind free (free + 1)) next n₂ after₂ left₂ w to (m.as_number (m.computed op kind (after₂ free) (after₂ (free + 1)))) (Number z) refl
         (computed-same op kind (after₂ free) (after₂ (free + 1)) x y z (took₂.kept free (omega arith) (λ e. omega arith) ∙ took.has) took₂.has hx (r.3 y hy) e)
         (arrived u g p home next n₂ registers after₂ to free (Number z) left₂ w took₂.agrees
@@ -314,7 +320,7 @@ module _ (u : Code) (g : Setting) (p : q.Prog) (f : q.Func) (c : Around) (bound 
         (used-as e x r.1 t.1 two
         (lowered e top (top + 1) codes.0 (before (Compute to op at_kind to top) (before (Convert to kind to) (before (Write place kind to codes.2) next))) (omega arith) t.1 codes.4 n₂ after₂ left₂ x two))
         (λ by y n₃ after₃ left₃ hb took₃.
-        change-lines u g p home v place kind op at_kind false codes.2 to to top free n₃ next registers after₃ left₃ first num.0 by y t.2.0 num.1
+        change-lines u g p home c.operates works.operates v place kind op at_kind false codes.2 to to top free n₃ next registers after₃ left₃ first num.0 by y t.2.0 num.1
         (λ i j. designates c p blocks a free v y.world.store left₃ _ took₃.agrees (place-kept c a free v w.world.store y.world.store after _ (λ o. took₃.keeps.same o ∙ took.keeps.same o)
         (λ z ge l. register-other (with_register after₃ to i) to z j (λ e. omega arith) ∙ register-other after₃ to z i (λ e. omega arith) ∙ took₃.kept z (omega arith) (λ e. omega arith) ∙ took.kept z l (λ e. omega arith)) stood.1.is))
         took₃.agrees (took₃.kept to (omega arith) (λ e. omega arith) ∙ took.has) took₃.has (r.3 by hb)
@@ -339,7 +345,7 @@ module _ (u : Code) (g : Setting) (p : q.Prog) (f : q.Func) (c : Around) (bound 
         (used-as e x r.1 t.1 two
         (lowered e top (top + 1) codes.0 (before (Move to size back to top) (before (Write place Ptr to codes.2) next)) (omega arith) t.1 codes.4 n₂ after₂ left₂ x two))
         (λ by y n₃ after₃ left₃ hb took₃.
-        move-lines u g p home v place size back false codes.2 to to top free n₃ next registers after₃ left₃ first by y took₃.sane
+        move-lines u g p home c.operates v place size back false codes.2 to to top free n₃ next registers after₃ left₃ first by y took₃.sane
         (λ i. designates c p blocks a free v y.world.store left₃ _ took₃.agrees (place-kept c a free v w.world.store y.world.store after _ (λ o. took₃.keeps.same o ∙ took.keeps.same o)
         (λ z ge l. register-other after₃ to z i (λ e. omega arith) ∙ took₃.kept z (omega arith) (λ e. omega arith) ∙ took.kept z l (λ e. omega arith)) stood.1.is))
         took₃.agrees (took₃.kept to (omega arith) (λ e. omega arith) ∙ took.has) took₃.has
@@ -361,7 +367,7 @@ module _ (u : Code) (g : Setting) (p : q.Prog) (f : q.Func) (c : Around) (bound 
         let num = number-value x.world.activations x.world.store kind first t.1.0 took.value in
         let rs = with_register after₂ top (Number (pos 1)) in
         does-line u g p home (Put top (pos 1)) (before (Compute to op at_kind to top) (before (Convert to kind to) (before (Write place kind to codes.1) next))) n₂ after₂ left₂ x top (Fine (Number (pos 1))) (Number (pos 1)) refl refl
-        (change-lines u g p home v place kind op at_kind false codes.1 to to top free n₂ next registers rs left₂ first num.0 (pos 1) x t.1.0 num.1
+        (change-lines u g p home c.operates works.operates v place kind op at_kind false codes.1 to to top free n₂ next registers rs left₂ first num.0 (pos 1) x t.1.0 num.1
         (λ i j. designates c p blocks a free v x.world.store left₂ _ took.agrees (place-kept c a free v w.world.store x.world.store after _ took.keeps.same
         (λ z ge l. register-other (with_register rs to i) to z j (λ e. omega arith) ∙ register-other rs to z i (λ e. omega arith) ∙ register-other after₂ top z (Number (pos 1)) (λ e. omega arith) ∙ took.kept z l (λ e. omega arith)) stood.1.is))
         took.agrees (register-other after₂ top to (Number (pos 1)) (λ e. omega arith) ∙ took.has) (register-same after₂ top (Number (pos 1))) (right-same op at_kind (pos 1) (one-of_kind at_kind t.1.1.0))
@@ -383,7 +389,7 @@ module _ (u : Code) (g : Setting) (p : q.Prog) (f : q.Func) (c : Around) (bound 
         let num = number-value x.world.activations x.world.store kind first t.1.0 took.value in
         let rs = with_register after₂ top (Number (pos 1)) in
         does-line u g p home (Put top (pos 1)) (before (Compute top op at_kind to top) (before (Convert top kind top) (before (Write place kind top codes.1) next))) n₂ after₂ left₂ x top (Fine (Number (pos 1))) (Number (pos 1)) refl refl
-        (change-lines u g p home v place kind op at_kind true codes.1 top to top free n₂ next registers rs left₂ first num.0 (pos 1) x t.1.0 num.1
+        (change-lines u g p home c.operates works.operates v place kind op at_kind true codes.1 top to top free n₂ next registers rs left₂ first num.0 (pos 1) x t.1.0 num.1
         (λ i j. designates c p blocks a free v x.world.store left₂ _ took.agrees (place-kept c a free v w.world.store x.world.store after _ took.keeps.same
         (λ z ge l. register-other (with_register rs top i) top z j (λ e. omega arith) ∙ register-other rs top z i (λ e. omega arith) ∙ register-other after₂ top z (Number (pos 1)) (λ e. omega arith) ∙ took.kept z l (λ e. omega arith)) stood.1.is))
         took.agrees (register-other after₂ top to (Number (pos 1)) (λ e. omega arith) ∙ took.has) (register-same after₂ top (Number (pos 1))) (right-same op at_kind (pos 1) (one-of_kind at_kind t.1.1.0))
@@ -404,7 +410,7 @@ module _ (u : Code) (g : Setting) (p : q.Prog) (f : q.Func) (c : Around) (bound 
         (λ first x n₂ after₂ left₂ took.
         let rs = with_register after₂ top (Number (pos 1)) in
         does-line u g p home (Put top (pos 1)) (before (Move to size back to top) (before (Write place Ptr to codes.1) next)) n₂ after₂ left₂ x top (Fine (Number (pos 1))) (Number (pos 1)) refl refl
-        (move-lines u g p home v place size back false codes.1 to to top free n₂ next registers rs left₂ first (pos 1) x took.sane
+        (move-lines u g p home c.operates v place size back false codes.1 to to top free n₂ next registers rs left₂ first (pos 1) x took.sane
         (λ i. designates c p blocks a free v x.world.store left₂ _ took.agrees (place-kept c a free v w.world.store x.world.store after _ took.keeps.same
         (λ z ge l. register-other rs to z i (λ e. omega arith) ∙ register-other after₂ top z (Number (pos 1)) (λ e. omega arith) ∙ took.kept z l (λ e. omega arith)) stood.1.is))
         took.agrees (register-other after₂ top to (Number (pos 1)) (λ e. omega arith) ∙ took.has) (register-same after₂ top (Number (pos 1)))
@@ -425,7 +431,7 @@ module _ (u : Code) (g : Setting) (p : q.Prog) (f : q.Func) (c : Around) (bound 
         (λ first x n₂ after₂ left₂ took.
         let rs = with_register after₂ top (Number (pos 1)) in
         does-line u g p home (Put top (pos 1)) (before (Move top size back to top) (before (Write place Ptr top codes.1) next)) n₂ after₂ left₂ x top (Fine (Number (pos 1))) (Number (pos 1)) refl refl
-        (move-lines u g p home v place size back true codes.1 top to top free n₂ next registers rs left₂ first (pos 1) x took.sane
+        (move-lines u g p home c.operates v place size back true codes.1 top to top free n₂ next registers rs left₂ first (pos 1) x took.sane
         (λ i. designates c p blocks a free v x.world.store left₂ _ took.agrees (place-kept c a free v w.world.store x.world.store after _ took.keeps.same
         (λ z ge l. register-other rs top z i (λ e. omega arith) ∙ register-other after₂ top z (Number (pos 1)) (λ e. omega arith) ∙ took.kept z l (λ e. omega arith)) stood.1.is))
         took.agrees (register-other after₂ top to (Number (pos 1)) (λ e. omega arith) ∙ took.has) (register-same after₂ top (Number (pos 1)))

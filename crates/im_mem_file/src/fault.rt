@@ -5,7 +5,8 @@ use im_num::NoMemory;
 use std::alloc::{AllocError, AllocFailed};
 use thiserror::Error;
 
-/// Why bytes are not the text of a memory: the first thing, from the front, that is not as it must be.
+/// Why bytes are not the text of a memory: the first thing, from the front, that is not as it must
+/// be.
 #[derive(Clone, Copy, PartialEq, Eq, Debug, Error)]
 pub enum MemoryFault {
     /// The bytes end before what is wanted next does; how many bytes there are in all.
@@ -22,7 +23,8 @@ pub enum MemoryFault {
     /// More than 1280 pages.
     #[error("bad pages {0}")]
     BadPages(u32),
-    /// The number of a page that isn't above the one before it, is over 1279, or whose bytes are all 0.
+    /// The number of a page that isn't above the one before it, is over 1279, or whose bytes are
+    /// all 0.
     #[error("bad page {0}")]
     BadPage(u32),
     /// The place of the first byte behind the last page.

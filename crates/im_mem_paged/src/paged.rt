@@ -15,8 +15,8 @@ pub const PAGE_SIZE: u32 = 4096;
 pub const PAGE_COUNT: u32 = 1280;
 
 /// Memory with a mark for each page that was ever written to: a page without one is zero, so that
-/// who wants the bytes that aren't 0 looks at the marked pages alone. A contract sees it as the list
-/// of its bytes.
+/// who wants the bytes that aren't 0 looks at the marked pages alone. A contract sees it as the
+/// list of its bytes.
 #[derive(Drop)]
 pub struct PagedMem {
     flat: FlatMem,

@@ -20,9 +20,11 @@ use std::alloc::Global;
 pub enum ParseFault {
     /// The number of the first token whose nesting is over 200.
     Depth(u32),
-    /// The number of the first token at which links are over 512, where some unit begins with those before it.
+    /// The number of the first token at which links are over 512, where some unit begins with those
+    /// before it.
     Links(u32),
-    /// The number of the first token that no unit goes on with, which is that of the end where every token is gone on with.
+    /// The number of the first token that no unit goes on with, which is that of the end where
+    /// every token is gone on with.
     Syntax(u32),
     /// Memory ran out.
     Memory,
@@ -53,9 +55,9 @@ fn words_of<'a>(
     Ok(words)
 }
 
-/// The syntax tree that the tokens of a source spell (C11 6.9), or why there is none; their nesting is looked at first,
-/// and then which comes first, links over their limit or a token that no unit goes on with.
-/// The tokens are given back before the tree grows.
+/// The syntax tree that the tokens of a source spell (C11 6.9), or why there is none; their nesting
+/// is looked at first, and then which comes first, links over their limit or a token that no unit
+/// goes on with. The tokens are given back before the tree grows.
 pub fn parse(alloc: Global, source: &[u8], tokens: Vec<Token>) -> Result<Tree, ParseFault>
     requires { All (IsWithin source.now) tokens.items }
     ensures { IsParsedText source.now tokens.items result }
@@ -98,8 +100,9 @@ fn whole(alloc: Global, words: &[Word]) -> Result<Tree, ParseFault>
     }
 }
 
-/// Why a text has no tree of which this word is the first with links over the limit. Those before it are parsed alone, so that
-/// a fault among them is told, which stands earlier, and no larger tree grows.
+/// Why a text has no tree of which this word is the first with links over the limit. Those before
+/// it are parsed alone, so that a fault among them is told, which stands earlier, and no larger
+/// tree grows.
 fn cut_short(alloc: Global, words: &[Word], place: usize) -> ParseFault
     requires number { length words.now < 2 ^ 32 }
     requires within { place < length words.now }

@@ -35,7 +35,8 @@ fn has_name(words: &[Word], at: u32) -> bool
     }
 }
 
-/// Whether specifiers go on at this place, where `typed` says whether a type stands in those before it.
+/// Whether specifiers go on at this place, where `typed` says whether a type stands in those before
+/// it.
 pub fn specifier_ahead(words: &[Word], names: &TypedefNames, typed: bool, at: u32) -> bool
     requires { length words.now < 2 ^ 32 }
     ensures { IsTrue result ↔ GoesOn names.now typed (head (drop at (map shown words.now))) }
@@ -71,7 +72,8 @@ pub fn adds_type(before: bool, item: &Specifier) -> bool
     }
 }
 
-/// Whether a parameter list opens here, behind a parenthesis in a parameter's declarator (C11 6.7.6.3p11).
+/// Whether a parameter list opens here, behind a parenthesis in a parameter's declarator (C11
+/// 6.7.6.3p11).
 pub fn opens_parameters(words: &[Word], names: &TypedefNames, at: u32) -> bool
     requires { length words.now < 2 ^ 32 }
     ensures { IsTrue result ↔ OpensParameters names.now (drop at (map shown words.now)) }

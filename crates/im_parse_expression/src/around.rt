@@ -23,7 +23,8 @@ fn unsuffixed(suffixes: &[Suffix]) -> bool
     suffixes.len() == 0
 }
 
-/// A declarator whose parentheses aren't kept, with these stars before it and these suffixes behind.
+/// A declarator whose parentheses aren't kept, with these stars before it and these suffixes
+/// behind.
 fn merged(
     at: u32,
     mut stars: Vec<Star>,
@@ -49,8 +50,8 @@ fn merged(
     })
 }
 
-/// A declarator in parentheses, with these stars before them and these suffixes behind; the parentheses are kept only
-/// where they change what is declared.
+/// A declarator in parentheses, with these stars before them and these suffixes behind; the
+/// parentheses are kept only where they change what is declared.
 pub fn around(
     alloc: Global,
     at: u32,

@@ -60,7 +60,8 @@ fn own_name<'b>(words: &[Word<'b>], form: Form, at: u32) -> Option<(&'b [u8], u3
     name_at(words, at)
 }
 
-/// Whether a declarator of this form may go on without a core at this place, where `unstarred` says that it has no stars.
+/// Whether a declarator of this form may go on without a core at this place, where `unstarred` says
+/// that it has no stars.
 fn is_nameless(words: &[Word], form: Form, unstarred: bool, at: u32) -> bool
     requires { length words.now < 2 ^ 32 }
     ensures { IsTrue result ↔ MayBeNameless form ×

@@ -50,7 +50,8 @@ pub fn declaration(
     ))
 }
 
-/// The declarators of a declaration and the semicolon behind them (C11 6.7), and the place behind all.
+/// The declarators of a declaration and the semicolon behind them (C11 6.7), and the place behind
+/// all.
 pub fn closed_init_declarators(
     alloc: Global,
     words: &[Word],
@@ -74,7 +75,8 @@ pub fn closed_init_declarators(
     Ok((items, end))
 }
 
-/// What stands behind the first declarator of a declaration, to the semicolon (C11 6.7), and the place behind it.
+/// What stands behind the first declarator of a declaration, to the semicolon (C11 6.7), and the
+/// place behind it.
 pub fn closed_inits_behind(
     alloc: Global,
     words: &[Word],

@@ -14,7 +14,8 @@ use im_tok::Punctuator;
 use im_word::Word;
 use std::alloc::Global;
 
-/// The enumerators of an enum and the brace that closes them (C11 6.7.2.2), and the place behind all.
+/// The enumerators of an enum and the brace that closes them (C11 6.7.2.2), and the place behind
+/// all.
 #[cycle(expression)]
 pub fn closed_enumerators(
     alloc: Global,

@@ -35,8 +35,8 @@ pub fn expression(
     Ok((tree, next))
 }
 
-/// Whether a conditional expression that begins at this place is a unary one: it is, unless its node is looser and not
-/// in parentheses of its own.
+/// Whether a conditional expression that begins at this place is a unary one: it is, unless its
+/// node is looser and not in parentheses of its own.
 fn is_unary(tree: &Expression, at: u32) -> bool
     ensures { IsTrue result ↔
         (number_of (tree_of tree.now) ≡ at → is_looser (tree_of tree.now) ≡ false) }
@@ -99,7 +99,8 @@ pub fn conditional(
     }
 }
 
-/// A binary expression of this level, of which 0 binds loosest (C11 6.5.5 to 6.5.14), and the place behind it.
+/// A binary expression of this level, of which 0 binds loosest (C11 6.5.5 to 6.5.14), and the place
+/// behind it.
 #[cycle(expression)]
 fn binary(
     alloc: Global,

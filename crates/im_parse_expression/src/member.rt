@@ -56,7 +56,8 @@ fn member(
     Ok((make::member(specifiers, declarators), end))
 }
 
-/// The declarators of members and the semicolon behind them (C11 6.7.2.1), and the place behind all.
+/// The declarators of members and the semicolon behind them (C11 6.7.2.1), and the place behind
+/// all.
 #[cycle(expression)]
 fn closed_declarators(
     alloc: Global,

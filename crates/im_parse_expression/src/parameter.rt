@@ -16,7 +16,8 @@ use im_tok::Punctuator;
 use im_word::Word;
 use std::alloc::Global;
 
-/// The parameters of a function and the parenthesis that closes them (C11 6.7.6.3), and the place behind all.
+/// The parameters of a function and the parenthesis that closes them (C11 6.7.6.3), and the place
+/// behind all.
 #[cycle(expression)]
 pub fn closed_parameters(
     alloc: Global,

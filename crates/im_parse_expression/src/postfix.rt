@@ -81,7 +81,8 @@ fn postfix_from(
     }
 }
 
-/// The arguments of a call and the parenthesis that closes them (C11 6.5.2.2), and the place behind all.
+/// The arguments of a call and the parenthesis that closes them (C11 6.5.2.2), and the place behind
+/// all.
 #[cycle(expression)]
 #[inline(never)]
 fn closed_arguments(

@@ -47,7 +47,8 @@ pub fn specifiers(
     Ok((make::specifiers(at, items), next))
 }
 
-/// One declaration specifier (C11 6.7), and the place behind it; `typed` says whether a type stands before it.
+/// One declaration specifier (C11 6.7), and the place behind it; `typed` says whether a type stands
+/// before it.
 #[cycle(expression)]
 fn specifier(
     alloc: Global,

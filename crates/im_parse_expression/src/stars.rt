@@ -24,7 +24,8 @@ fn consts(words: &[Word], at: u32) -> (u32, u32)
     (count, next)
 }
 
-/// The stars at this place, each with the `const` behind it (C11 6.7.6.1), and the place behind them.
+/// The stars at this place, each with the `const` behind it (C11 6.7.6.1), and the place behind
+/// them.
 pub fn stars(alloc: Global, words: &[Word], at: u32) -> Result<(Vec<Star>, u32), Stop>
     requires { length words.now < 2 ^ 32 }
     ensures { Parses stars_tree Stars AfterStars (map shown words.now) at result }

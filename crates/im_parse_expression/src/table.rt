@@ -4,7 +4,8 @@ ghost use Rattle.im_parse_expression.specs.Tables as table;
 use im_ctree::{AssignOp, BinaryOp, SpecifierWord, StepOp, UnaryOp};
 use im_tok::{Keyword, Punctuator};
 
-/// The binary operator that a punctuator stands for, and its level, of which 0 binds loosest (C11 6.5.5 to 6.5.14).
+/// The binary operator that a punctuator stands for, and its level, of which 0 binds loosest (C11
+/// 6.5.5 to 6.5.14).
 pub fn binary_operator(mark: Punctuator) -> Option<(BinaryOp, u32)>
     ensures { result ≡ table.binary_operator mark }
 {

@@ -94,7 +94,8 @@ pub fn case_statement<'b>(
     Ok((tree, end))
 }
 
-/// The rest of a statement at place `at` that `default` labels (C11 6.8.1), and the place behind it.
+/// The rest of a statement at place `at` that `default` labels (C11 6.8.1), and the place behind
+/// it.
 #[cycle(statement)]
 pub fn default_statement<'b>(
     alloc: Global,

@@ -29,7 +29,8 @@ pub fn condition(
     Ok((tree, end))
 }
 
-/// The expression at this place, where one stands there, and the semicolon behind it (C11 6.8.3); the place behind both.
+/// The expression at this place, where one stands there, and the semicolon behind it (C11 6.8.3);
+/// the place behind both.
 pub fn before_semicolon(
     alloc: Global,
     words: &[Word],
@@ -48,7 +49,8 @@ pub fn before_semicolon(
     Ok((Some(tree), end))
 }
 
-/// The expression at this place, where one stands there, and the parenthesis that closes it; the place behind both.
+/// The expression at this place, where one stands there, and the parenthesis that closes it; the
+/// place behind both.
 pub fn before_paren(
     alloc: Global,
     words: &[Word],

@@ -118,7 +118,8 @@ pub fn remember<'b>(
     Ok(())
 }
 
-/// A declaration (C11 6.7), whose typedef names are known from its semicolon on, and the place behind it.
+/// A declaration (C11 6.7), whose typedef names are known from its semicolon on, and the place
+/// behind it.
 pub fn declared<'b>(
     alloc: Global,
     words: &[Word<'b>],

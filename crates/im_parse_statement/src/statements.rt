@@ -45,7 +45,8 @@ pub fn statement<'b>(
     }
 }
 
-/// The rest of a statement at place `at`, from the place behind its keyword on, and the place behind it.
+/// The rest of a statement at place `at`, from the place behind its keyword on, and the place
+/// behind it.
 #[cycle(statement)]
 fn started<'b>(
     alloc: Global,

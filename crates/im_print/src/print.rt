@@ -88,10 +88,12 @@ fn put_externals(alloc: Global, externals: &[External]) -> Result<Vec<u8>, NoMem
     Ok(out)
 }
 
-/// The text of a tree: a blank between two tokens, an LF at the end, and parentheses only where the grammar needs them. Where the
-/// tokens of some text spell the tree, this text is read as the same tree, but for the numbers of its tokens.
+/// The text of a tree: a blank between two tokens, an LF at the end, and parentheses only where the
+/// grammar needs them. Where the tokens of some text spell the tree, this text is read as the same
+/// tree, but for the numbers of its tokens.
 ///
-/// It goes down the tree by recursion, and through lists by loops: at most eight calls from a node to one in it.
+/// It goes down the tree by recursion, and through lists by loops: at most eight calls from a node
+/// to one in it.
 pub fn print_tree(alloc: Global, tree: &Tree) -> Result<Vec<u8>, NoMemory>
     ensures text { IfOk result (λ text. text.items ≡ text_of (words_of (tree_of tree.now))) }
     ensures read_back { IfOk result (λ text. IsSpelled (tree_of tree.now)

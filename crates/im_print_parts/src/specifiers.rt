@@ -149,8 +149,8 @@ fn put_next_declarators(
     Ok(())
 }
 
-/// Writes the first declarator behind specifiers, in which a type stands if `typed` says so: if none does, a typedef name
-/// that stood next would be one of them.
+/// Writes the first declarator behind specifiers, in which a type stands if `typed` says so: if
+/// none does, a typedef name that stood next would be one of them.
 #[cycle(printing)]
 pub fn put_behind_specifiers(
     out: &mut Vec<u8>,

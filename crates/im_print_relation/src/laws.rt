@@ -15,15 +15,16 @@ ghost use Rattle.im_print_relation.specs.Fit.{AreFit};
 ghost use Rattle.im_print_relation.specs.Text.{text_of, HaveWords, IsReadAs};
 ghost use Rattle.im_print_relation.specs.Again.{IsSpelledAgain};
 
-/// The printed words of a tree that words of tokens spell are words of tokens too, and they spell the same tree but for the numbers
-/// of its tokens.
+/// The printed words of a tree that words of tokens spell are words of tokens too, and they spell
+/// the same tree but for the numbers of its tokens.
 pub fn spelled_again_law()
     ensures { (tree : Tree) (words : List Word) → Spells tree words → AreFit words
         → IsSpelledAgain tree (words_of tree) }
 {}
 
-/// The parentheses round an expression are needed: where an expression has to stand that binds more tightly than it does, its words
-/// without them derive no tree that is this one but for the numbers of its tokens (C11 6.5).
+/// The parentheses round an expression are needed: where an expression has to stand that binds more
+/// tightly than it does, its words without them derive no tree that is this one but for the numbers
+/// of its tokens (C11 6.5).
 pub fn needed_parentheses_law()
     ensures { (names : List Name) (p q n : ℕ) (expression again : Expression) (words : List Word)
         → IsExpression names q expression words → AreFit words → printed.binding expression < n
@@ -31,13 +32,14 @@ pub fn needed_parentheses_law()
         → bare.expression again ≡ bare.expression expression → ⊥ }
 {}
 
-/// The printed text of words of tokens lexes to tokens with these words (C11 6.4): a blank goes on with no token.
+/// The printed text of words of tokens lexes to tokens with these words (C11 6.4): a blank goes on
+/// with no token.
 pub fn read_back_law()
     ensures { (words : List Word) → AreFit words → IsReadAs (text_of words) words }
 {}
 
-/// The printed text of each tree that the tokens of some text spell lexes to tokens that spell the same tree, but for the numbers of
-/// its tokens.
+/// The printed text of each tree that the tokens of some text spell lexes to tokens that spell the
+/// same tree, but for the numbers of its tokens.
 pub fn printed_text_law()
     ensures lexes { (source : List ℕ) (tokens : List Token) (words : List Word) (tree : Tree)
         → All (λ byte. byte ≤ 255) source → Lexes source tokens → HaveWords source tokens words

@@ -30,8 +30,8 @@ pub fn placeable_law()
     ensures { PlaceableLaw }
 {}
 
-/// Promoted code has the same statics, frames that may need as much, no cut where there was none, and
-/// costs no more in all.
+/// Promoted code has the same statics, frames that may need as much, no cut where there was none,
+/// and costs no more in all.
 pub fn rest_law()
     ensures { RestLaw }
 {}

@@ -10,12 +10,13 @@ use im_cut_gap::{cut_gaps, gap_same_law};
 use im_num::NoMemory;
 use std::alloc::Global;
 
-/// The instructions of a gap that aren't a function's own: those of recovery, a checkpoint, a routine and what calls need.
+/// The instructions of a gap that aren't a function's own: those of recovery, a checkpoint, a
+/// routine and what calls need.
 const BEYOND: u32 = 110;
 
-/// The unit with a cut wherever a path would else be too long for the longest gap that is asked for, in
-/// instructions, and directly before each write, those to slots too, that may meet a read which
-/// is exposed on a path to it.
+/// The unit with a cut wherever a path would else be too long for the longest gap that is asked
+/// for, in instructions, and directly before each write, those to slots too, that may meet a read
+/// which is exposed on a path to it.
 pub fn recut(
     alloc: Global,
     mut unit: Unit,

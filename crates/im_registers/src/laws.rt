@@ -1,7 +1,7 @@
 ghost use Rattle.im_registers.specs.Laws.{RegistersLaw};
 
-/// Code whose locals are registers does what the code does wherever that is defined, and is all that
-/// the passes behind ask of what lowering gives.
+/// Code whose locals are registers does what the code does wherever that is defined, and is all
+/// that the passes behind ask of what lowering gives.
 pub fn registers_law()
     ensures { RegistersLaw }
 {

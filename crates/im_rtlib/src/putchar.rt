@@ -69,9 +69,9 @@ fn selector_part(alloc: Global) -> Result<Vec<Line>, AllocError>
     Vec::from_slice(alloc, &lines)
 }
 
-/// The byte in x10 is appended to the output and comes back, or -1 where the output has its capacity
-/// (C11 7.21.7.8). The byte is stored in one section, the length in the next, the selector in a
-/// third.
+/// The byte in x10 is appended to the output and comes back, or -1 where the output has its
+/// capacity (C11 7.21.7.8). The byte is stored in one section, the length in the next, the selector
+/// in a third.
 pub fn putchar_lines(alloc: Global) -> Result<Vec<Line>, NoMemory>
     ensures { IfOk result (λ lines. code_lines lines.items ≡ putchar) }
 {

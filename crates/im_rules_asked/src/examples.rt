@@ -35,8 +35,8 @@ pub fn declarations_examples()
     ensures breaks_8 { first_fault_of broken_8 ≡ Some (fault 8 0) }
 {}
 
-/// `struct s;` alone in a block (C11 6.7.2.3p7): behind it s is incomplete there; behind the block it
-/// is the outer one again; and an outer enum may have its tag.
+/// `struct s;` alone in a block (C11 6.7.2.3p7): behind it s is incomplete there; behind the block
+/// it is the outer one again; and an outer enum may have its tag.
 pub fn tags_examples()
     ensures inner { first_fault_of inner_tag ≡ Some (fault 5 19) }
     ensures outer { first_fault_of outer_tag ≡ None }
@@ -127,8 +127,9 @@ pub fn limits_examples()
     ensures broken_first { first_stop_of broken_then_large ≡ Some (broken (fault 10 1)) }
 {}
 
-/// With `char x;` in scope, `x + 1` is an int, and x is converted to it; `switch (x) { case 1: case 2: break; default: ; }` has two
-/// cases; `int x; static int y = 3; int x; int main(void) { return y; }` has two statics, of which y begins as 3.
+/// With `char x;` in scope, `x + 1` is an int, and x is converted to it; `switch (x) { case 1: case
+/// 2: break; default: ; }` has two cases; `int x; static int y = 3; int x; int main(void) { return
+/// y; }` has two statics, of which y begins as 3.
 pub fn typed_examples()
     ensures sum { term char_in_scope char_sum ≡ char_sum_term }
     ensures switch { (statement in_a_function small_switch).statement ≡ small_switch_typed }

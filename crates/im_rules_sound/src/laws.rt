@@ -11,8 +11,8 @@ pub fn reads_law()
     ensures { ReadsLaw }
 {}
 
-/// A unary operator on a well-typed term that its rule allows gives a well-typed term, where what a pointer points to is
-/// within the limit of sizes.
+/// A unary operator on a well-typed term that its rule allows gives a well-typed term, where what a
+/// pointer points to is within the limit of sizes.
 pub fn unary_law()
     ensures { UnaryLaw }
 {}
@@ -28,8 +28,8 @@ pub fn choices_law()
     ensures { ChoicesLaw }
 {}
 
-/// Assignments, and `++` and `--`, of well-typed terms that their rules allow are well typed, where a pointer's target is
-/// within the limit of sizes.
+/// Assignments, and `++` and `--`, of well-typed terms that their rules allow are well typed, where
+/// a pointer's target is within the limit of sizes.
 pub fn assigns_law()
     ensures assigns { AssignsLaw }
     ensures steps { StepsLaw }

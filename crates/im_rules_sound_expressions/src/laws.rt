@@ -6,13 +6,15 @@ pub fn parts_law()
     ensures { PartsLaw }
 {}
 
-/// What declarators declare and type names name is within the limit of sizes, where each array in them is.
+/// What declarators declare and type names name is within the limit of sizes, where each array in
+/// them is.
 pub fn types_law()
     ensures declares { DeclaresLaw }
     ensures names { NamesLaw }
 {}
 
-/// What the rules type an expression to is well typed, in a context of which the program has all names and literals.
+/// What the rules type an expression to is well typed, in a context of which the program has all
+/// names and literals.
 pub fn expressions_law()
     ensures { ExpressionsLaw }
 {}

@@ -6,8 +6,8 @@ pub fn word_names_law()
     ensures { WordNamesLaw }
 {}
 
-/// Within the limits each static has a cell, since it has a complete type; and an image can name it, where it takes the
-/// identifiers of the unit.
+/// Within the limits each static has a cell, since it has a complete type; and an image can name
+/// it, where it takes the identifiers of the unit.
 pub fn statics_law()
     ensures cells { CellsLaw }
     ensures namable { NamableLaw }

@@ -10,7 +10,8 @@ pub fn rows_reached_law()
     ensures { RowsReached }
 {}
 
-/// Two instructions with the same fields and the same immediate as a word are the same, so decoding undoes encoding.
+/// Two instructions with the same fields and the same immediate as a word are the same, so decoding
+/// undoes encoding.
 pub fn lines_apart_law()
     ensures { LinesApart }
 {}

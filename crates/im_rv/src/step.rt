@@ -117,7 +117,8 @@ fn apply<M: Memory>(regs: &mut Regs, memory: &mut M, rd: u8, effect: Effect) -> 
     }
 }
 
-/// What an instruction does with these registers. A step and a torn store both ask it, so it is inlined by hand.
+/// What an instruction does with these registers. A step and a torn store both ask it, so it is
+/// inlined by hand.
 #[inline(always)]
 pub(crate) fn effect_of(regs: &Regs, i: &Instr) -> Effect
     requires rs1 { i.now.rs1 < 32 }

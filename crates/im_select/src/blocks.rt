@@ -64,7 +64,8 @@ fn push_onward(lines: &mut Vec<Line>, is_next: bool, label: u32) -> Result<(), N
     push_jump(lines, 0, label)
 }
 
-/// To a label where a test holds or, where `holds` is false, where it does not: near, or over a jump.
+/// To a label where a test holds or, where `holds` is false, where it does not: near, or over a
+/// jump.
 fn push_test(
     lines: &mut Vec<Line>,
     distance: Distance,
@@ -164,8 +165,8 @@ fn push_exit(
     }
 }
 
-/// The lines of a block, by its number and the registers that live at the starts of blocks and at its
-/// points.
+/// The lines of a block, by its number and the registers that live at the starts of blocks and at
+/// its points.
 fn lines_by(
     alloc: Global,
     names: &Names,

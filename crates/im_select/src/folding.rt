@@ -147,7 +147,8 @@ fn push_put(
     }
 }
 
-/// An operator, by one instruction where its right side is a constant that the line before it passed.
+/// An operator, by one instruction where its right side is a constant that the line before it
+/// passed.
 fn push_operated(
     lines: &mut Vec<Line>,
     before: Option<u32>,

@@ -89,8 +89,8 @@ pub(crate) fn push_line(
     }
 }
 
-/// The lines of several, in order. A word of `points` has the registers that live before a line, the
-/// one behind it those that live behind the line; there may be more of them.
+/// The lines of several, in order. A word of `points` has the registers that live before a line,
+/// the one behind it those that live behind the line; there may be more of them.
 pub(crate) fn push_lines(
     lines: &mut Vec<Line>,
     names: &Names,

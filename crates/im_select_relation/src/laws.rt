@@ -1,7 +1,8 @@
 ghost use Rattle.im_select_relation.specs.Law.{SelectKeeps};
 ghost use Rattle.im_select_relation.specs.Symbolic.{FrameLaw, LinesLaw};
 
-/// Where placed code is selected and linked, the machine follows it: the same outcome, the same accesses.
+/// Where placed code is selected and linked, the machine follows it: the same outcome, the same
+/// accesses.
 pub fn select_keeps_law()
     ensures { SelectKeeps }
 {}

@@ -70,16 +70,6 @@ plain_value objects I32 n h = refl
 plain_value objects U32 n h = refl
 plain_value objects Ptr n h = absurd (h refl)
 
--- a number that no kind has
-no_number : (k : Kind) → IsOfKind k (pos (2 ^ 32)) → ⊥
-no_number I8 h = let a = h.high in omega (arith, ints)
-no_number U8 h = let a = h.high in omega (arith, ints)
-no_number I16 h = let a = h.high in omega (arith, ints)
-no_number U16 h = let a = h.high in omega (arith, ints)
-no_number I32 h = let a = h.high in omega (arith, ints)
-no_number U32 h = let a = h.high in omega (arith, ints)
-no_number Ptr h = let a = h.high in omega (arith, ints)
-
 place_kind : (statics : List StaticObject) (k : Kind) (b : Bool) (name : Name) (i : ℕ) → IsShown statics k (if b then static_shown name i else Local) → k ≡ Ptr
 place_kind statics k true (Named n) i h = h.0
 place_kind statics k true (Slot n) i h = h
@@ -128,7 +118,7 @@ module _ (p : Linking) (objects : List ObjectValue) (statics : List StaticObject
   pointer_same m a (Number z) shown means = absurd shown.0
   pointer_same m a Null shown means = ap (pointer_of objects) means
   pointer_same m a (Pointer o i) shown means = placed_same o i (little m a 4) shown means.0 means.1 means.2
-  pointer_same m a Unset shown means = absurd shown.0
+  pointer_same m a Unset shown means = absurd shown
 
   pub cell_same : (m : Mem) (k : Kind) (a : ℕ) (v : Value) → ((i : ℕ) → m i < 256) → IsShown statics k (cell_shown v) → Means p v (cell_word m k a) → value_of objects k (little m a (kind_size k)) ≡ cell_shown v
   cell_same m k a (Number z) small shown means = number_same objects m k a z small shown.0 shown.1 means
@@ -152,4 +142,4 @@ module _ (p : Linking) (objects : List ObjectValue) (statics : List StaticObject
       by U16 e s h = absurd cc
       by I32 e s h = absurd cc
       by U32 e s h = absurd cc
-  cell_same m k a Unset small shown means = absurd (no_number k shown.1)
+  cell_same m k a Unset small shown means = absurd shown

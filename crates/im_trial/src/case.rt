@@ -13,7 +13,8 @@ use crate::texts::Texts;
 use std::alloc::{AllocError, Global};
 use std::fmt::{Debug, Display};
 
-/// A case: what it finds, as a text, and why it ends early. What has ended goes on to its last line all the same.
+/// A case: what it finds, as a text, and why it ends early. What has ended goes on to its last line
+/// all the same.
 #[derive(Drop)]
 pub struct Case {
     pub alloc: Global,

@@ -10,8 +10,8 @@ use crate::stop::Stop;
 use crate::texts::Texts;
 use std::alloc::{AllocError, Global};
 
-/// A row of a table: its fields, of which the first is its kind, the second its name and the last what it wants, and
-/// the lines below it.
+/// A row of a table: its fields, of which the first is its kind, the second its name and the last
+/// what it wants, and the lines below it.
 #[derive(Drop)]
 pub struct Row<'a> {
     pub fields: Vec<&'a str>,
@@ -87,8 +87,8 @@ impl<'a> Row<'a> {
         self.below.as_str()
     }
 
-    /// The bytes of a field: the lines below for `|`, a text of the tables for `@NAME`, or what is written, without
-    /// escapes.
+    /// The bytes of a field: the lines below for `|`, a text of the tables for `@NAME`, or what is
+    /// written, without escapes.
     pub fn bytes(&self, alloc: Global, texts: &Texts, number: usize) -> Result<Vec<u8>, Stop>
         ensures { MatchResult result (λ bytes. bytes_of texts.now self.now number ≡ Some bytes.items)
             (Refuses (bytes_of texts.now self.now number)) }

@@ -48,8 +48,8 @@ fn put_line<'a>(alloc: Global, rows: &mut Vec<Row<'a>>, line: &'a str) -> Result
     Ok(())
 }
 
-/// The rows of a table. A line that begins with `|` stands below the row before it; one that is empty or begins with
-/// `#` is none.
+/// The rows of a table. A line that begins with `|` stands below the row before it; one that is
+/// empty or begins with `#` is none.
 pub fn rows_of(alloc: Global, table: &str) -> Result<Vec<Row<'_>>, Stop>
     ensures { MatchResult result (λ rows. rows_in table.now ≡ Some (map said_of rows.items))
         (Refuses (rows_in table.now)) }

@@ -55,7 +55,8 @@ impl Texts {
         Err(Stop::Row)
     }
 
-    /// What is written in a word: the text of that name for `@NAME`, and else its bytes, without escapes.
+    /// What is written in a word: the text of that name for `@NAME`, and else its bytes, without
+    /// escapes.
     pub fn written(&self, alloc: Global, word: &str) -> Result<Vec<u8>, Stop>
         ensures { let found = written_in self.now word.now in
             MatchResult result (λ bytes. found ≡ Some bytes.items) (Refuses found) }
@@ -72,8 +73,9 @@ impl Texts {
         Ok(())
     }
 
-    /// Takes the text of a row, and tells whether the row is of a kind that has one: `text NAME BYTES`, `file NAME`,
-    /// which is a file beside the table, `words NAME WORDS`, `repeat NAME FRONT LINK COUNT END`.
+    /// Takes the text of a row, and tells whether the row is of a kind that has one: `text NAME
+    /// BYTES`, `file NAME`, which is a file beside the table, `words NAME WORDS`, `repeat NAME
+    /// FRONT LINK COUNT END`.
     pub fn take(&mut self, rt: &HostRuntime, row: &Row<'_>) -> Result<bool, Stop> {
         let alloc = rt.alloc();
         let bytes = match row.kind() {

@@ -135,8 +135,8 @@ fn tell_specifiers(alloc: Global, case: &mut Case) -> Result<(), Stop> {
     Ok(())
 }
 
-/// The types of `unsigned const long`, of `text`, of `const struct list`, of the words `static int`,
-/// and of `struct list` behind `struct list;` in a block.
+/// The types of `unsigned const long`, of `text`, of `const struct list`, of the words `static
+/// int`, and of `struct list` behind `struct list;` in a block.
 pub(crate) fn specifiers(case: &mut Case) {
     if let Err(stop) = tell_specifiers(case.alloc, case) {
         case.end(stop);

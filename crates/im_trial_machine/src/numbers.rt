@@ -31,7 +31,7 @@ pub(crate) fn wrapped(row: &Row<'_>, case: &mut Case) {
     case.show(number);
     case.say(" ->");
     match kind_of(row.field(1)) {
-        Some(kind) => case.show(wrap(kind, number)),
+        Some(kind) => case.show(wrap(kind, i128::from(number))),
         None => case.end(Stop::Row),
     }
 }
@@ -50,7 +50,7 @@ pub(crate) fn held(row: &Row<'_>, case: &mut Case) {
 /// `low`, a number: its low 32 bits.
 pub(crate) fn low(row: &Row<'_>, case: &mut Case) {
     let number = case.number(row.field(1));
-    case.show(to_word(number));
+    case.show(to_word(i128::from(number)));
 }
 
 /// `stands`, a name, bytes, a place: the word there.

@@ -6,6 +6,7 @@ fn tell_cell(cell: CellValue, case: &mut Case) {
         CellValue::Number(number) => case.show(number),
         CellValue::Null => case.say(" null"),
         CellValue::Local => case.say(" local"),
+        CellValue::NoValue => case.say(" unset"),
         CellValue::Inside { object, offset } => {
             case.say(" inside");
             case.show(object);

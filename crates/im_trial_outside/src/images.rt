@@ -44,6 +44,7 @@ fn cell_of(text: &str) -> Result<CellValue, Stop> {
     match text {
         "null" => Ok(CellValue::Null),
         "local" => Ok(CellValue::Local),
+        "unset" => Ok(CellValue::NoValue),
         _ => {
             let number = text.parse::<i64>().map_err(|_| Stop::Row)?;
             Ok(CellValue::Number(i128::from(number)))

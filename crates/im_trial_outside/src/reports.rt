@@ -101,7 +101,7 @@ fn evaluated_of(text: &str, case: &mut Case) -> Evaluated {
         "StackExhausted" => Evaluated::StackExhausted,
         "ZeroDivisor" => Evaluated::Undefined(Undefined::ZeroDivisor),
         "OutOfFuel" => Evaluated::OutOfFuel,
-        _ => Evaluated::Returned(case.number(text)),
+        _ => Evaluated::Returned(i128::from(case.number(text))),
     }
 }
 

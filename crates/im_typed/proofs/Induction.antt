@@ -1,22 +1,22 @@
--- Expressions and statements, where what calls do is related.
+-- Expressions and statements, where what calls and operators do is related.
 use Rattle.std.proofs.Common.{ℕ, zero, suc, ◌+◌, ◌≤◌, List, [], ◌∷◌, false, length, take, drop, arith}
 use Rattle.std.specs.Prelude.{Option, Some, None, pos}
 use Rattle.im_num.specs.Kinds.{wrap}
-use Rattle.im_store.specs.Numbers.{apply, apply_one}
+use Rattle.im_store.specs.Numbers.{apply_one}
 use Rattle.im_store.specs.Objects.{Named, Object, Value, Number, Null, Pointer, static}
 use Rattle.im_store.specs.declared.undefined.Undefined.TheVariants.{MissingResult}
 use Rattle.im_store.specs.Access.{taken}
 use Rattle.im_store.specs.Pointers.{moved_by, bytes_moved, member_at, distance, compare_values, holds}
 use Rattle.im_typed.specs.Program.{Place, Static, Local, Target, Member, Expr, Constant, NullPointer, Read, Address, Convert, Unary, Binary, Move, MoveBy, Distance, Compare, Not, And, Or, Choose, Comma, Discard, Assign, Update, Increment, Part, Call, Serve, no_argument, an_argument, Exprs, no_exprs, more_exprs, Piece, Stmt, Do, Forget, Initialise, Block, If, While, DoWhile, For, Switch, Break, Continue, Return, Stmts, no_stmts, more_stmts}
 use Rattle.im_typed.specs.Runs.{Run, ◌>>=◌, give, starve, with_fuel, either}
-use Rattle.im_typed.specs.Values.{Values, cells_of, used, value_in}
+use Rattle.im_typed.specs.Values.{Values, Operates, cells_of, used, value_in}
 use Rattle.im_typed.specs.Meaning.{Around, Calls, Flow, Next, Broke, Continued, Returned, after_turn, place_of, value_of, values_of, turns, decides, entered, out_of_switch, forgotten, cleared, given_offsets, initialise, returned, does, does_from}
-use Rattle.im_typed.proofs.Related.{Related, Tame, tame-bind, tame-give, tame-undefined, tame-starve, tame-paid, tame-either, tame-in_store, rel-bind, rel-give, rel-look, rel-checked, rel-in_store, rel-either, rel-paid, rel-paid-zero, rel-paid-suc, rel-down}
-use Rattle.im_typed.proofs.Parts.{rel-change_store, rel-used, rel-value_in, rel-number_in, rel-read_at, rel-write_at, rel-update, rel-served, rel-after, rel-after_turn, rel-decides}
+use Rattle.im_typed.proofs.Related.{Related, Tame, tame-bind, tame-give, tame-undefined, tame-starve, tame-paid, tame-either, tame-in_store, rel-bind, rel-give, rel-checked, rel-in_store, rel-either, rel-paid, rel-paid-zero, rel-paid-suc, rel-down}
+use Rattle.im_typed.proofs.Parts.{RelatedOperates, rel-change_store, rel-used, rel-value_in, rel-number_in, rel-read_at, rel-write_at, rel-update, rel-served, rel-after, rel-after_turn, rel-decides}
 
-abbrev pub within : ℕ → ℕ → ℕ → ℕ → Calls → Around
-within activation depth first capacity calls =
-    record { activation = activation; depth = depth; first = first; capacity = capacity; calls = calls }
+abbrev pub within : ℕ → ℕ → ℕ → ℕ → Calls → Operates → Around
+within activation depth first capacity calls operates =
+    record { activation = activation; depth = depth; first = first; capacity = capacity; calls = calls; operates = operates }
 
 -- calls that are related, whatever is called
 pub record RelatedCalls (k b : ℕ) (calls calls' : Calls) : Type 0 where
@@ -78,12 +78,12 @@ rel-turns {k} (suc b) (suc n) (suc n') le le' t g h =
     (rel-paid-suc (rel-bind (rel-down g) (λ f. rel-after_turn f (rel-bind (rel-down h) (λ _. rel-turns b n n' l l' (rel-down t) (rel-down g) (rel-down h))))))
     (rel-give Next)
 
-module _ (k b activation depth first capacity : ℕ) (calls calls' : Calls) (called : RelatedCalls k b calls calls') where
+module _ (k b activation depth first capacity : ℕ) (calls calls' : Calls) (operates operates' : Operates) (called : RelatedCalls k b calls calls') (operated : RelatedOperates k b operates operates') where
   abbrev c : Around
-  c = within activation depth first capacity calls
+  c = within activation depth first capacity calls operates
 
   abbrev d : Around
-  d = within activation depth first capacity calls'
+  d = within activation depth first capacity calls' operates'
 
   abbrev object : ℕ → Object
   object n = record { activation = activation; depth = depth; name = Named (first + n) }
@@ -104,7 +104,7 @@ module _ (k b activation depth first capacity : ℕ) (calls calls' : Calls) (cal
     rel-value (Unary op kind e) = rel-bind (rel-number_in (rel-value e)) (λ z. rel-give (Number (apply_one op kind z) ∷ []))
     rel-value (Binary op kind x y) =
         rel-bind (rel-number_in (rel-value x)) (λ i. rel-bind (rel-number_in (rel-value y)) (λ j.
-        rel-bind (rel-checked (apply op kind i j)) (λ z. rel-give (Number z ∷ []))))
+        rel-bind (operated.by op kind i j) (λ z. rel-give (Number z ∷ []))))
     rel-value (Move size back x y) =
         rel-bind (rel-value_in (rel-value x)) (λ p. rel-bind (rel-number_in (rel-value y)) (λ n.
         rel-bind (rel-in_store (λ store. moved_by store (bytes_moved size back n) p)) (λ at. rel-give (at ∷ []))))
@@ -127,8 +127,8 @@ module _ (k b activation depth first capacity : ℕ) (calls calls' : Calls) (cal
     rel-value (Discard x) = rel-bind (rel-value x) (λ _. rel-give [])
     rel-value (Assign x a e) =
         rel-bind (rel-place a) (λ at. rel-bind (rel-value e) (λ vs. rel-bind (rel-used vs) (λ _. rel-write_at x at vs)))
-    rel-value (Update a change e) = rel-bind (rel-place a) (λ at. rel-update change false at (rel-number_in (rel-value e)))
-    rel-value (Increment a change old) = rel-bind (rel-place a) (λ at. rel-update change old at (rel-give (pos 1)))
+    rel-value (Update a change e) = rel-bind (rel-place a) (λ at. rel-update operated change false at (rel-number_in (rel-value e)))
+    rel-value (Increment a change old) = rel-bind (rel-place a) (λ at. rel-update operated change old at (rel-give (pos 1)))
     rel-value (Part from x e) = rel-bind (rel-value e) (λ vs. rel-give (take (length (cells_of x)) (drop from vs)))
     rel-value (Call f es) = rel-bind (rel-values es) (λ vs. called.by f vs)
     rel-value (Serve service no_argument) = rel-paid (rel-served capacity service (pos 0))

@@ -6,23 +6,19 @@ use Rattle.std.proofs.lemmas.Bool.{eqb-true}
 use Rattle.std.proofs.lemmas.Bool.Decides.{nat_tests}
 use Rattle.im_num.specs.declared.kind.Kind.{Kind}
 use Rattle.im_num.specs.declared.kind.Kind.TheVariants.{I32, Ptr}
-use Rattle.im_num.specs.Kinds.{IsOfKind, wrap}
-use Rattle.im_num.proofs.Wrapping.{wrap-of_kind}
+use Rattle.im_num.specs.Kinds.{IsOfKind}
 use Rattle.im_store.specs.im_ctype.declared.cell.Cell.{Cell}
 use Rattle.im_store.specs.Checks.{Checked, Fine, Bad, then_}
-use Rattle.im_store.specs.Numbers.{apply}
 use Rattle.im_store.specs.Objects.{Object, Value, Number, Null, Pointer, Unset, Shape, Store, same_object, lives}
 use Rattle.im_store.specs.Statics.{StaticObject}
 use Rattle.im_store.specs.Access.{taken, stands, read_cell, read_cells, write_cell, write_cells, with_value, at_place}
-use Rattle.im_store.specs.Pointers.{reaches, within, moved_by, bytes_moved, member_at, distance}
+use Rattle.im_store.specs.Pointers.{reaches, within, moved_by, member_at, distance}
 use Rattle.im_store.proofs.Same.{same_object-is, both-true, stands-there}
 use Rattle.im_store.proofs.OfKind.{distance-of_kind}
-use Rattle.im_typed.specs.declared.expression.Change.{Change}
-use Rattle.im_typed.specs.declared.expression.Change.TheVariants.{Number as NumberBy, Move as PointerBy}
 use Rattle.im_typed.specs.Program.{Access, Scalar, Struct}
 use Rattle.im_typed.specs.Runs.{World, State, Gives}
-use Rattle.im_typed.specs.Values.{Values, cells_of, read_at, write_at, number_of, changed_kind, changed}
-use Rattle.im_typed.specs.Typing.{IsStep, kinds_of}
+use Rattle.im_typed.specs.Values.{Values, cells_of, read_at, write_at}
+use Rattle.im_typed.specs.Typing.{kinds_of}
 use Rattle.im_typed.specs.Sound.{IsInside, IsValue, IsCellValue, IsSound, IsSoundWorld, AreValues, Fits, IsRight}
 use Rattle.im_typed.proofs.Sounds.{then-fine, unless-fine, right-bind, right-checked}
 
@@ -87,14 +83,6 @@ module _ (statics : List StaticObject) (begun : ℕ) (store : Store) (sound : Is
   member-value d (Number z) v e = absurd (cc)
   member-value d Null v e = absurd (cc)
   member-value d Unset v e = absurd (cc)
-
-  pub changed-value : (c : Change) (old after : Value) (by : ℤ) → IsStep c → changed c old by store ≡ Fine after → IsValue begun store (changed_kind c) after
-  changed-value (NumberBy kind op at) old after by t e =
-      let a = then-fine (number_of old) (λ a. then_ (apply op at (wrap at a) by) (λ z. Fine (Number (wrap kind z)))) after e in
-      let z = then-fine (apply op at (wrap at a.0) by) (λ z. Fine (Number (wrap kind z))) after a.2 in
-      let same : Number (wrap kind z.0) ≡ after = cc in
-      subst (IsValue begun store kind) same (t.0, wrap-of_kind kind z.0)
-  changed-value (PointerBy size back) old after by t e = moved-value (bytes_moved size back by) old after e
 
 pub distance-value : (begun : ℕ) (store : Store) (size : ℕ) (k l : Kind) (p q : Value) (z : ℤ) → 0 < size → IsValue begun store k p → IsValue begun store l q → distance size p q ≡ Fine z → IsOfKind I32 z
 distance-value begun store size k l (Pointer o i) (Pointer r j) z some h g e =

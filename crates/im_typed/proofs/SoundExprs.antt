@@ -1,9 +1,9 @@
--- Well-typed places and expressions, where calls are right.
+-- Well-typed places and expressions, where calls and operators are right.
 use Rattle.std.proofs.Common.{◌≡◌, ℕ, zero, suc, ◌<◌, List, [], ◌∷◌, Bool, true, false, length, take, drop, inl, inr, refl, sym, subst, arith}
-use Rattle.std.specs.Prelude.{Option, Some, None, ℤ, pos, negsuc, not, if◌then◌else◌, slice_get}
+use Rattle.std.specs.Prelude.{Option, Some, None, ℤ, pos, not, if◌then◌else◌, slice_get}
 use Rattle.std.proofs.lemmas.Int.{ints}
 use Rattle.im_num.specs.declared.kind.Kind.{Kind}
-use Rattle.im_num.specs.declared.kind.Kind.TheVariants.{I32, Ptr}
+use Rattle.im_num.specs.declared.kind.Kind.TheVariants.{I8, U8, I16, U16, I32, U32, Ptr}
 use Rattle.im_num.specs.Kinds.{IsOfKind, wrap}
 use Rattle.im_num.proofs.Wrapping.{wrap-of_kind}
 use Rattle.im_store.specs.im_ctype.declared.cell.Cell.{Cell}
@@ -22,12 +22,12 @@ use Rattle.im_typed.specs.declared.expression.Change.{Change}
 use Rattle.im_typed.specs.declared.expression.Change.TheVariants.{Number as NumberBy, Move as PointerBy}
 use Rattle.im_typed.specs.Program.{Access, Scalar, Struct, Place, Static, Local, Target, Member, Expr, Constant, NullPointer, Read, Address, Convert, Unary, Binary, Move, MoveBy, Distance, Compare, Not, And, Or, Choose, Comma, Discard, Assign, Update, Increment, Part, Call, Serve, no_argument, an_argument, Exprs, no_exprs, more_exprs, LocalObject, Func, Prog}
 use Rattle.im_typed.specs.Runs.{World, State, Answer, Run, goes_on, checked}
-use Rattle.im_typed.specs.Values.{Values, used, number_of, number_in, cells_of, update, changed, changed_kind}
+use Rattle.im_typed.specs.Values.{Values, Operates, computes, used, number_of, number_in, cells_of, update, changed, changed_kind}
 use Rattle.im_typed.specs.Meaning.{Around, Calls, local, place_of, value_of, values_of, served}
 use Rattle.im_typed.specs.Typing.{Each, IsInteger, IsGiven, IsRightShape, IsChange, IsStep, IsPart, TakesArgument, kinds_of, parameters, result_shape, shape_of, IsTypedPlace, IsTyped, AreArguments, IsPromotedShape, IsIntegerShape}
 use Rattle.im_typed.specs.Sound.{IsValue, IsSoundWorld, IsHere, AreValues, Fits, ArgumentsFit, KeepsWorld, IsRight}
 use Rattle.im_typed.proofs.Sounds.{keeps-trans, value-kept, here-kept, right-bind, right-give, right-weaker, right-checked, right-paid, right-either, right-used_values, right-value_in, right-scalar, right-number_in, right-integer}
-use Rattle.im_typed.proofs.SoundCells.{inside-object, moved-value, member-value, changed-value, distance-value, fits-of_values, right-read, right-write}
+use Rattle.im_typed.proofs.SoundCells.{inside-object, moved-value, member-value, distance-value, fits-of_values, right-read, right-write}
 
 -- numbers
 
@@ -106,9 +106,46 @@ step-of_change : (c : Change) (shape : Option Access) → IsChange c shape → I
 step-of_change (NumberBy kind op at) shape h = (h.0, h.1)
 step-of_change (PointerBy size back) shape h = h.0
 
+-- by how much a change goes: an operand of its operator, or a number of elements
+abbrev IsAmount : Change → ℤ → Type 0
+IsAmount (NumberBy kind op at) z = IsOperand op at z
+IsAmount (PointerBy size back) z = Unit {0}
+
+one-of_kind : (kind : Kind) → IsInteger kind → IsOfKind kind (pos 1)
+one-of_kind I8 h = record { low = omega (arith, ints); high = omega (arith, ints) }
+one-of_kind U8 h = record { low = omega (arith, ints); high = omega (arith, ints) }
+one-of_kind I16 h = record { low = omega (arith, ints); high = omega (arith, ints) }
+one-of_kind U16 h = record { low = omega (arith, ints); high = omega (arith, ints) }
+one-of_kind I32 h = record { low = omega (arith, ints); high = omega (arith, ints) }
+one-of_kind U32 h = record { low = omega (arith, ints); high = omega (arith, ints) }
+one-of_kind Ptr h = absurd h
+
+one-operand : (op : BinaryOp) (kind : Kind) → IsInteger kind → IsOperand op kind (pos 1)
+one-operand ShiftLeft kind h = tt
+one-operand ShiftRight kind h = tt
+one-operand _ kind h = one-of_kind kind h
+
+one-amount : (c : Change) → IsStep c → IsAmount c (pos 1)
+one-amount (NumberBy kind op at) h = one-operand op at h.1.0
+one-amount (PointerBy size back) h = tt
+
 -- what calls do is right
 pub record RightCalls (g : Prog) (calls : Calls) : Type 0 where
   pub by : (k : ℕ) (args : List Value) (s : State) → IsSoundWorld g.statics s.world → ArgumentsFit (parameters (slice_get g.funcs k)) s.world args → IsRight g.statics s.world (Fits (result_shape (slice_get g.funcs k))) (calls k args s)
+
+-- what operators do is right, on operands of their kinds
+pub record RightOperates (g : Prog) (operates : Operates) : Type 0 where
+  pub by : (op : BinaryOp) (kind : Kind) (x y : ℤ) (s : State) → IsSoundWorld g.statics s.world → IsOfKind kind x → IsOperand op kind y → IsRight g.statics s.world (λ w z. IsOfKind kind z) (operates op kind x y s)
+
+pub right-computes : (g : Prog) → RightOperates g computes
+right-computes g = record {
+  by = λ op kind x y s sane hx hy. right-checked g.statics (λ w z. IsOfKind kind z) s (apply op kind x y) sane (λ z e. apply-of_kind op kind x y z hx hy e);
+}
+
+-- what surrounds a body is right
+pub record RightAround (g : Prog) (c : Around) : Type 0 where
+  pub calls : RightCalls g c.calls
+  pub operates : RightOperates g c.operates
 
 module _ (g : Prog) where
   abbrev statics : List StaticObject
@@ -123,24 +160,32 @@ module _ (g : Prog) where
   operand ShiftRight kind shape c h = right-weaker g.statics (right-integer g.statics shape (promoted-integer shape c) h) (λ t z k. tt)
   operand _ kind shape c h = right-number_in g.statics kind (at-shape c h)
 
-  changes-by : (c : Change) (shape : Option Access) → IsChange c shape → {w : World} {r : Answer Values} → IsRight g.statics w (Fits shape) r → IsRight g.statics w (λ w y. Unit {0}) (goes_on (goes_on r used) (λ v. checked (number_of v)))
-  changes-by (NumberBy kind op at) shape c h = right-weaker g.statics (operand op at shape c.2 h) (λ t z k. tt)
+  changes-by : (c : Change) (shape : Option Access) → IsChange c shape → {w : World} {r : Answer Values} → IsRight g.statics w (Fits shape) r → IsRight g.statics w (λ w y. IsAmount c y) (goes_on (goes_on r used) (λ v. checked (number_of v)))
+  changes-by (NumberBy kind op at) shape c h = operand op at shape c.2 h
   changes-by (PointerBy size back) shape c h = right-weaker g.statics (right-integer g.statics shape c.1 h) (λ t z k. tt)
 
   either-value : (w : World) (kind : Kind) (old : Bool) (before after : Value) → IsValue w.activations w.store kind before → IsValue w.activations w.store kind after → IsValue w.activations w.store kind (if old then before else after)
   either-value w kind true before after h k = h
   either-value w kind false before after h k = k
 
-  right-update : (c : Change) (old : Bool) (amount : Run ℤ) (at : Value) (s : State) → IsStep c → IsSoundWorld g.statics s.world
-      → ((t : State) → IsSoundWorld g.statics t.world → KeepsWorld s.world t.world → IsRight g.statics t.world (λ w y. Unit {0}) (amount t))
-      → IsRight g.statics s.world (Fits (Some (Scalar (changed_kind c)))) (update c old amount at s)
-  right-update c old amount at s step sane hyp =
+  right-changed : (operates : Operates) → RightOperates g operates → (c : Change) (before : Value) (by : ℤ) (s : State) → IsStep c → IsSoundWorld g.statics s.world → IsAmount c by
+      → IsRight g.statics s.world (λ w v. IsValue w.activations w.store (changed_kind c) v) (changed operates c before by s)
+  right-changed operates h (NumberBy kind op at) before by s step sane amount =
+      right-bind g.statics (right-checked g.statics (λ w a. Unit {0}) s (number_of before) sane (λ a e. tt)) (λ a t sane₁ kept₁ _.
+      right-bind g.statics (h.by op at (wrap at a) by t sane₁ (wrap-of_kind at a) amount) (λ z u sane₂ kept₂ _.
+      right-give g.statics u _ sane₂ (step.0, wrap-of_kind kind z)))
+  right-changed operates h (PointerBy size back) before by s step sane amount =
+      right-checked g.statics (λ w v. IsValue w.activations w.store Ptr v) s (moved_by s.world.store (bytes_moved size back by) before) sane
+      (λ v e. moved-value g.statics s.world.activations s.world.store sane.store (bytes_moved size back by) before v e)
+
+  right-update : (operates : Operates) → RightOperates g operates → (c : Change) (old : Bool) (amount : Run ℤ) (at : Value) (s : State) → IsStep c → IsSoundWorld g.statics s.world
+      → ((t : State) → IsSoundWorld g.statics t.world → KeepsWorld s.world t.world → IsRight g.statics t.world (λ w y. IsAmount c y) (amount t))
+      → IsRight g.statics s.world (Fits (Some (Scalar (changed_kind c)))) (update operates c old amount at s)
+  right-update operates right c old amount at s step sane hyp =
       let kind = changed_kind c in
       right-bind g.statics (right-value_in g.statics kind (right-read g.statics (Scalar kind) at s sane)) (λ before t sane₁ kept₁ hb.
-      right-bind g.statics (hyp t sane₁ kept₁) (λ by u sane₂ kept₂ _.
-      right-bind g.statics
-      (right-checked g.statics (λ w v. IsValue w.activations w.store kind v) u (changed c before by u.world.store) sane₂
-      (λ v e. changed-value g.statics u.world.activations u.world.store sane₂.store c before v by step e)) (λ after x sane₃ kept₃ ha.
+      right-bind g.statics (hyp t sane₁ kept₁) (λ by u sane₂ kept₂ amounts.
+      right-bind g.statics (right-changed operates right c before by u step sane₂ amounts) (λ after x sane₃ kept₃ ha.
       right-bind g.statics (right-write g.statics (Scalar kind) at (after ∷ []) x sane₃ (ha, tt)) (λ _ y sane₄ kept₄ _.
       right-give g.statics y _ sane₄ (
         either-value y.world kind old before after
@@ -163,7 +208,7 @@ module _ (g : Prog) where
         );
       }
 
-  module _ (f : Func) (c : Around) (calls : RightCalls g c.calls) where
+  module _ (f : Func) (c : Around) (right : RightAround g c) where
     mutual
       pub right-place : (p : Place) (s : State) → IsTypedPlace g f p → IsSoundWorld g.statics s.world → IsHere f c s.world → IsRight g.statics s.world (λ w v. IsValue w.activations w.store Ptr v) (place_of c p s)
       right-place (Static n) s t sane here =
@@ -196,7 +241,7 @@ module _ (g : Prog) where
       right-value (Binary op kind a b) s t sane here =
           right-bind g.statics (right-number_in g.statics kind (at-shape t.3 (right-value a s t.1 sane here))) (λ x u sane₁ kept hx.
           right-bind g.statics (operand op kind (shape_of g b) t.4 (right-value b u t.2 sane₁ (here-kept kept here))) (λ y v sane₂ kept₂ hy.
-          right-bind g.statics (right-checked g.statics (λ w z. IsOfKind kind z) v (apply op kind x y) sane₂ (λ z e. apply-of_kind op kind x y z hx hy e)) (λ z w sane₃ kept₃ h.
+          right-bind g.statics (right.operates.by op kind x y v sane₂ hx hy) (λ z w sane₃ kept₃ h.
           right-give g.statics w _ sane₃ ((t.0.0, h), refl))))
       right-value (Move size back a b) s t sane here =
           right-bind g.statics (right-value_in g.statics Ptr (at-shape t.3 (right-value a s t.1 sane here))) (λ p u sane₁ kept hp.
@@ -254,16 +299,16 @@ module _ (g : Prog) where
           right-bind g.statics (right-used_values g.statics x v vs sane₂ hv) (λ _ w sane₃ kept₃ hw. right-write g.statics x at vs w sane₃ hw)))
       right-value (Update a change e) s t sane here =
           right-bind g.statics (right-place a s t.0 sane here) (λ at u sane₁ kept h.
-          right-update change false (number_in (value_of c e)) at u (step-of_change change (shape_of g e) t.2) sane₁
+          right-update c.operates right.operates change false (number_in (value_of c e)) at u (step-of_change change (shape_of g e) t.2) sane₁
           (λ v sane₂ kept₂. changes-by change (shape_of g e) t.2 (right-value e v t.1 sane₂ (here-kept kept₂ (here-kept kept here)))))
       right-value (Increment a change old) s t sane here =
           right-bind g.statics (right-place a s t.0 sane here) (λ at u sane₁ kept h.
-          right-update change old _ at u t.1 sane₁ (λ v sane₂ kept₂. right-give g.statics v (pos 1) sane₂ tt))
+          right-update c.operates right.operates change old _ at u t.1 sane₁ (λ v sane₂ kept₂. right-give g.statics v (pos 1) sane₂ (one-amount change t.1)))
       right-value (Part from x e) s t sane here =
           right-bind g.statics (right-value e s t.1 sane here) (λ vs u sane₁ kept h.
           right-give g.statics u _ sane₁ (part-fits g.statics u.world from x (shape_of g e) vs t.2 h))
       right-value (Call n es) s t sane here =
-          right-bind g.statics (right-values es (parameters (slice_get g.funcs n)) s t.1 sane here) (λ vs u sane₁ kept h. calls.by n vs u sane₁ h)
+          right-bind g.statics (right-values es (parameters (slice_get g.funcs n)) s t.1 sane here) (λ vs u sane₁ kept h. right.calls.by n vs u sane₁ h)
       right-value (Serve service no_argument) s t sane here =
           right-paid g.statics (Fits (Some (Scalar (row service).result))) s.world s.fuel _ (λ left.
           right-served c.capacity service (pos 0) (record { world = s.world; fuel = left }) sane)

@@ -19,7 +19,7 @@ use Rattle.im_typed.specs.Programs.{Setting, first_object, entering, leaving, ca
 use Rattle.im_typed.specs.Typing.{Each, AreLaidOut, parameters, result_shape, IsStaticPlace, HasPlace, IsFirstValue, AreFirstValues, IsTypedStatic, IsTypedFunc, IsMain, IsWellTyped}
 use Rattle.im_typed.specs.Sound.{IsInside, IsCellValue, IsSound, IsSoundWorld, IsHere, Fits, FlowFits, ArgumentsFit, IsRightAt, IsRight, IsShown, AreShown, ShowEach, EndsRight}
 use Rattle.im_typed.proofs.Sounds.{right-fails, right-paid, right-either}
-use Rattle.im_typed.proofs.SoundExprs.{RightCalls}
+use Rattle.im_typed.proofs.SoundExprs.{RightCalls, RightAround, right-computes}
 use Rattle.im_typed.proofs.SoundStmts.{right-does}
 use Rattle.im_typed.proofs.SoundCalls.{differs, if-true, if-false, if-some, by-test, each-at, same-some, new-shape, begun-sound, ended-sound, given-fits, old-shape, zero-of_kind}
 
@@ -74,7 +74,7 @@ module _ (g : Setting) (typed : IsWellTyped g.prog) where
       record {
         by = left-at k f s w (λ o h. old-shape g.prog.statics f args s.world d first sane o h) refl sane
             (λ h. main-result g.prog.funcs g.prog.main k f typed.main e h) (does c n f.body begun)
-            (right-does g.prog f c right n f.body false false begun t.3 sound here).by;
+            (right-does g.prog f c (record { calls = right; operates = right-computes g.prog }) n f.body false false begun t.3 sound here).by;
       }
 
   right-enters : (calls : Calls) (n k : ℕ) (found : Option Func) (args : List Value) (s : State) → RightCalls g.prog calls → slice_get g.prog.funcs k ≡ found → IsSoundWorld g.prog.statics s.world → ArgumentsFit (parameters found) s.world args
@@ -98,6 +98,10 @@ module _ (g : Setting) (typed : IsWellTyped g.prog) where
         right-paid g.prog.statics _ s.world s.fuel (called g (calls_of g n) n k args) (λ left.
         right-called (calls_of g n) n k args (record { world = s.world; fuel = left }) (right-calls n) sane fit);
   }
+
+  -- what surrounds each body is right
+  pub right-around : (n activation depth first : ℕ) → RightAround g.prog (around g (calls_of g n) activation depth first)
+  right-around n activation depth first = record { calls = right-calls n; operates = right-computes g.prog }
 
 -- the store that a run starts with
 

@@ -18,7 +18,7 @@ use Rattle.im_typed.specs.Typing.{Each, IsScalarShape, shape_of, IsTyped, IsPiec
 use Rattle.im_typed.specs.Sound.{IsCellValue, IsSound, IsSoundWorld, IsHere, Fits, FitsResult, FlowFits, IsRight}
 use Rattle.im_typed.proofs.Sounds.{here-kept, right-bind, right-give, right-paid, right-either, right-used_values, right-value_in, right-scalar, right-integer}
 use Rattle.im_typed.proofs.SoundCells.{right-write}
-use Rattle.im_typed.proofs.SoundExprs.{promoted-integer, RightCalls, at-shape, right-value}
+use Rattle.im_typed.proofs.SoundExprs.{promoted-integer, RightAround, at-shape, right-value}
 
 -- an object without values, and one that is cleared
 
@@ -92,7 +92,7 @@ result-kind : (shape : Option Access) (result : Option Kind) → IsScalarShape s
 result-kind shape None h e = absurd (subst IsScalarShape e h)
 result-kind shape (Some kind) h e = (kind, refl, e)
 
-module _ (g : Prog) (f : Func) (c : Around) (calls : RightCalls g c.calls) where
+module _ (g : Prog) (f : Func) (c : Around) (right : RightAround g c) where
   -- a run that is right wherever the activation's objects live
   pub record RightRun {A : Type 0} (P : World → A → Type 0) (m : Run A) : Type 0 where
     pub by : (s : State) → IsSoundWorld g.statics s.world → IsHere f c s.world → IsRight g.statics s.world P (m s)
@@ -120,12 +120,12 @@ module _ (g : Prog) (f : Func) (c : Around) (calls : RightCalls g c.calls) where
   }
 
   value-run : (e : Expr) → IsTyped g f e → RightRun (Fits (shape_of g e)) (value_of c e)
-  value-run e t = record { by = λ s sane here. right-value g f c calls e s t sane here }
+  value-run e t = record { by = λ s sane here. right-value g f c right e s t sane here }
 
   right-initialise : (o : Object) (cells : List Cell) (ps : List Piece) (s : State) → Each (IsPieceOf g f cells) ps → IsSoundWorld g.statics s.world → IsHere f c s.world → IsRight g.statics s.world (λ w x. Unit {0}) (initialise c o ps s)
   right-initialise o cells [] s t sane here = right-give g.statics s tt sane tt
   right-initialise o cells (p ∷ ps) s t sane here =
-      right-bind g.statics (at-shape g t.0.2 (right-value g f c calls p.value s t.0.1 sane here)) (λ vs u sane₁ kept hv.
+      right-bind g.statics (at-shape g t.0.2 (right-value g f c right p.value s t.0.1 sane here)) (λ vs u sane₁ kept hv.
       right-bind g.statics (right-used_values g.statics p.access u vs sane₁ hv) (λ _ v sane₂ kept₂ hw.
       right-bind g.statics (right-write g.statics p.access (Pointer o p.offset) vs v sane₂ hw) (λ _ w sane₃ kept₃ _.
       right-initialise o cells ps w t.1 sane₃ (here-kept kept₃ (here-kept kept₂ (here-kept kept here))))))
@@ -135,14 +135,14 @@ module _ (g : Prog) (f : Func) (c : Around) (calls : RightCalls g c.calls) where
       right-give g.statics s (Returned []) sane (subst (λ r. FitsResult r s.world []) (sym t) refl)
   right-returned (Some e) s t sane here =
       let k = result-kind (shape_of g e) f.result t.1 t.2 in
-      right-bind g.statics (right-value_in g.statics k.0 (at-shape g k.2 (right-value g f c calls e s t.0 sane here))) (λ v u sane₁ kept h.
+      right-bind g.statics (right-value_in g.statics k.0 (at-shape g k.2 (right-value g f c right e s t.0 sane here))) (λ v u sane₁ kept h.
       right-give g.statics u (Returned (v ∷ [])) sane₁ (subst (λ r. FitsResult r u.world (v ∷ [])) (sym k.1) (h, refl)))
 
   module _ (n : ℕ) where
     mutual
       pub right-does : (st : Stmt) (breaks continues : Bool) (s : State) → IsTypedStmt g f breaks continues st → IsSoundWorld g.statics s.world → IsHere f c s.world → IsRight g.statics s.world (FlowFits f.result) (does c n st s)
       right-does (Do e) breaks continues s t sane here =
-          right-bind g.statics (right-value g f c calls e s t sane here) (λ _ u sane₁ kept h. right-give g.statics u Next sane₁ tt)
+          right-bind g.statics (right-value g f c right e s t sane here) (λ _ u sane₁ kept h. right-give g.statics u Next sane₁ tt)
       right-does (Forget x) breaks continues s t sane here =
           right-bind g.statics
           (right-change_store g.statics (forgotten (local c x)) s (λ o. refl) (forgotten-sound g.statics s.world.activations s.world.store (local c x) here.later sane.store) sane)
@@ -154,7 +154,7 @@ module _ (g : Prog) (f : Func) (c : Around) (calls : RightCalls g c.calls) where
           (λ _ v sane₂ kept₂ h₂. right-give g.statics v Next sane₂ tt))
       right-does (Block ss) breaks continues s t sane here = right-does_from 0 ss breaks continues s t sane here
       right-does (If q a b) breaks continues s t sane here =
-          right-bind g.statics (right-scalar g.statics (shape_of g q) t.0.1 (right-value g f c calls q s t.0.0 sane here)) (λ v u sane₁ kept h.
+          right-bind g.statics (right-scalar g.statics (shape_of g q) t.0.1 (right-value g f c right q s t.0.0 sane here)) (λ v u sane₁ kept h.
           right-either g.statics u (holds v) _ _
           (right-does a breaks continues u t.1 sane₁ (here-kept kept here))
           (right-does b breaks continues u t.2 sane₁ (here-kept kept here)))
@@ -177,7 +177,7 @@ module _ (g : Prog) (f : Func) (c : Around) (calls : RightCalls g c.calls) where
           (value-run step t.2)
           (record { by = λ u sane₂ here₁. right-does b true true u t.3 sane₂ here₁ })).by x sane₁ (here-kept kept here)))
       right-does (Switch e ks otherwise ss) breaks continues s t sane here =
-          right-bind g.statics (right-integer g.statics (shape_of g e) (promoted-integer (shape_of g e) t.1) (right-value g f c calls e s t.0 sane here)) (λ z u sane₁ kept hz.
+          right-bind g.statics (right-integer g.statics (shape_of g e) (promoted-integer (shape_of g e) t.1) (right-value g f c right e s t.0 sane here)) (λ z u sane₁ kept hz.
           right-bind g.statics (right-does_from (entered z ks otherwise) ss true continues u t.4 sane₁ (here-kept kept here)) (λ flow v sane₂ kept₂ h.
           right-give g.statics v (out_of_switch flow) sane₂ (flow-of_switch f.result v.world flow h)))
       right-does Break breaks continues s t sane here = right-give g.statics s Broke sane tt

@@ -9,11 +9,12 @@ use Rattle.im_store.specs.Statics.{StaticObject}
 use Rattle.im_store.specs.Outcomes.{variables_from}
 use Rattle.im_typed.specs.Program.{Func}
 use Rattle.im_typed.specs.Runs.{World, State, Fails, Starves, Exhausts, Answer, Gives, Stops}
-use Rattle.im_typed.specs.Values.{Values}
+use Rattle.im_typed.specs.Values.{Values, computes}
 use Rattle.im_typed.specs.Meaning.{Calls}
 use Rattle.im_typed.specs.Programs.{Setting, first_object, call_result, entering, leaving, frame_of, body_of, enters, called, calls_of, start, run_of_main, outcome_of, meaning}
 use Rattle.im_typed.specs.Laws.{GoesOnFrom, Extends, FuelAtMost, ShowsStatics}
 use Rattle.im_typed.proofs.Related.{begins_self, Spends, Tame, Grown, Linked, Related, Benign, tame-starve, rel-bind, rel-give, rel-undefined, rel-look, rel-exhaust, rel-either, rel-change, rel-paid-zero, rel-paid-suc}
+use Rattle.im_typed.proofs.Parts.{rel-computes}
 use Rattle.im_typed.proofs.Induction.{RelatedCalls, rel-does}
 
 entering-benign : (activation depth first : ℕ) (f : Func) (args : List Value) → Benign (entering activation depth first f args)
@@ -29,7 +30,7 @@ module _ (g : Setting) where
       let d = w.depth + frame_of g i in
       let first = first_object g.prog i in
       rel-bind (rel-change (entering a d first f args) (entering-benign a d first f args)) (λ _.
-      rel-bind (rel-does k b a d first g.capacity calls calls' h n n' le le' f.body) (λ flow.
+      rel-bind (rel-does k b a d first g.capacity calls calls' computes computes h (rel-computes k b) n n' le le' f.body) (λ flow.
       rel-bind (rel-change (leaving a w.depth) (leaving-benign a w.depth)) (λ _.
       rel-give (call_result (i == g.prog.main) flow))))
 

@@ -4,28 +4,29 @@ use Rattle.std.specs.Ordering.{int_eq}
 use Rattle.im_num.specs.declared.kind.Kind.{Kind}
 use Rattle.im_num.specs.Kinds.{wrap}
 use Rattle.im_store.specs.im_ctype.declared.cell.Cell.{Cell}
-use Rattle.im_store.specs.Numbers.{apply, apply_one}
-use Rattle.im_store.specs.Objects.{Named, Object, static, Value, Number, Null, Pointer, Unset, Shape, Store, same_object, zero_of}
+use Rattle.im_store.specs.Numbers.{apply_one}
+use Rattle.im_store.specs.Objects.{Named, Object, static, Value, Null, Pointer, Unset, Shape, Store, same_object, zero_of}
 use Rattle.im_store.specs.Pointers.{moved_by, bytes_moved, member_at, distance, compare_values, holds}
 use Rattle.im_typed.specs.declared.statement.Case.{Case}
 use Rattle.im_typed.specs.Program.{Place, Static, Local, Target, Member, Expr, Constant, NullPointer, Read, Address, Convert, Unary, Binary, Move, MoveBy, Distance, Compare, Not, And, Or, Choose, Comma, Discard, Assign, Update, Increment, Part, Call, Serve, no_argument, an_argument, Exprs, no_exprs, more_exprs, Piece, Stmt, Do, Forget, Initialise, Block, If, While, DoWhile, For, Switch, Break, Continue, Return, Stmts, no_stmts, more_stmts}
 use Rattle.im_serve.specs.declared.service.Service.{Service}
 use Rattle.im_serve.specs.Services.{serve}
 use Rattle.im_typed.specs.Runs.{World, Run, ◌>>=◌, give, starve, look, change, with_fuel, either, checked, in_store}
-use Rattle.im_typed.specs.Values.{Values, scalar, number, truth, used, value_in, number_in, cells_of, read_at, write_at, update}
+use Rattle.im_typed.specs.Values.{Values, Operates, scalar, number, truth, used, value_in, number_in, cells_of, read_at, write_at, update}
 
 -- what a call does, by the number of the function and the arguments
 abbrev pub Calls : Type 0
 Calls = ℕ → List Value → Run Values
 
 -- what the meaning of a body stands on: the activation's number and depth, the number of the function's first object, the
--- capacity of the output in bytes, and what calls do
+-- capacity of the output in bytes, what calls do, and what binary operators do
 pub record Around : Type 0 where
   pub activation : ℕ
   pub depth : ℕ
   pub first : ℕ
   pub capacity : ℕ
   pub calls : Calls
+  pub operates : Operates
 
 -- input and output after a service
 abbrev pub after_service : ℕ → Service → ℤ → World → World
@@ -72,7 +73,7 @@ module _ (c : Around) where
     value_of (Binary op kind a b) = do
       x ← number_in (value_of a)
       y ← number_in (value_of b)
-      z ← checked (apply op kind x y)
+      z ← c.operates op kind x y
       number z
     value_of (Move size back a b) = do
       p ← value_in (value_of a)
@@ -123,10 +124,10 @@ module _ (c : Around) where
       write_at x at vs
     value_of (Update a change e) = do
       at ← place_of a
-      update change false (number_in (value_of e)) at
+      update c.operates change false (number_in (value_of e)) at
     value_of (Increment a change old) = do
       at ← place_of a
-      update change old (give (pos 1)) at
+      update c.operates change old (give (pos 1)) at
     value_of (Part from x e) = do
       vs ← value_of e
       give (take (length (cells_of x)) (drop from vs))

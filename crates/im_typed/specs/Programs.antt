@@ -7,7 +7,7 @@ use Rattle.im_store.specs.Access.{with_value}
 use Rattle.im_store.specs.Outcomes.{Outcome, Undef, More, End, variables}
 use Rattle.im_typed.specs.Program.{LocalObject, Func, Prog}
 use Rattle.im_typed.specs.Runs.{World, State, Fails, Starves, Exhausts, Answer, Gives, Stops, Run, ◌>>=◌, give, undefined, starve, exhaust, look, change, with_fuel, either}
-use Rattle.im_typed.specs.Values.{Values}
+use Rattle.im_typed.specs.Values.{Values, computes}
 use Rattle.im_typed.specs.Meaning.{Around, Calls, Flow, Returned, does}
 
 -- a program, the size of each function's frame in bytes, the size of the stack in bytes, and the capacity of the output in bytes
@@ -73,7 +73,7 @@ module _ (g : Setting) where
 
   abbrev pub around : Calls → ℕ → ℕ → ℕ → Around
   around calls activation depth first =
-      record { activation = activation; depth = depth; first = first; capacity = g.capacity; calls = calls }
+      record { activation = activation; depth = depth; first = first; capacity = g.capacity; calls = calls; operates = computes }
 
   -- the body of the k-th function, in which each loop has at most n turns
   abbrev pub body_of : Calls → ℕ → ℕ → Func → List Value → World → Run Values

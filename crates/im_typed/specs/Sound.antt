@@ -3,7 +3,7 @@ use Rattle.std.specs.Prelude.{◌≡◌, ℕ, zero, suc, ◌<◌, ◌≤◌, Lis
 use Rattle.im_num.specs.declared.kind.Kind.{Kind}
 use Rattle.im_num.specs.declared.kind.Kind.TheVariants.{I32, Ptr}
 use Rattle.im_num.specs.declared.values.CellValue.{CellValue}
-use Rattle.im_num.specs.declared.values.CellValue.TheVariants.{Number as ANumber, Null as ANull, Inside, Local}
+use Rattle.im_num.specs.declared.values.CellValue.TheVariants.{Number as ANumber, Null as ANull, Inside, Local, NoValue}
 use Rattle.im_num.specs.Kinds.{IsOfKind}
 use Rattle.im_num.specs.Variables.{Variable}
 use Rattle.im_store.specs.im_ctype.declared.cell.Cell.{Cell}
@@ -108,12 +108,14 @@ pub record IsRight {A : Type 0} (statics : List StaticObject) (w : World) (P : W
 
 -- what an end shows
 
--- the value of a cell of a kind: an integer of the kind; null; a place in a static or at its end; a place elsewhere
+-- the value of a cell of a kind: an integer of the kind; null; a place in a static or at its end; a place elsewhere. A cell
+-- that has none is no such
 abbrev pub IsShown : List StaticObject → Kind → CellValue → Type 0
 IsShown statics kind (ANumber z) = IsInteger kind × IsOfKind kind z
 IsShown statics kind ANull = kind ≡ Ptr
 IsShown statics kind (Inside n offset) = (kind ≡ Ptr) × HasPlace (slice_get statics n) offset
 IsShown statics kind Local = kind ≡ Ptr
+IsShown statics kind NoValue = ⊥
 
 abbrev pub AreShown : List StaticObject → List Cell → List CellValue → Type 0
 AreShown statics [] [] = Unit {0}

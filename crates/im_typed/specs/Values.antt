@@ -4,10 +4,11 @@ use Rattle.im_num.specs.declared.kind.Kind.{Kind}
 use Rattle.im_num.specs.declared.kind.Kind.TheVariants.{Ptr}
 use Rattle.im_num.specs.Kinds.{wrap}
 use Rattle.im_store.specs.im_ctype.declared.cell.Cell.{Cell}
+use Rattle.im_store.specs.declared.operators.BinaryOp.{BinaryOp}
 use Rattle.im_store.specs.declared.undefined.Undefined.TheVariants.{NoSuchCell, MissingResult}
-use Rattle.im_store.specs.Checks.{Checked, Fine, Bad, then_}
+use Rattle.im_store.specs.Checks.{Checked, Fine, Bad}
 use Rattle.im_store.specs.Numbers.{apply}
-use Rattle.im_store.specs.Objects.{Value, Number, Null, Pointer, Unset, Store}
+use Rattle.im_store.specs.Objects.{Value, Number, Null, Pointer, Unset}
 use Rattle.im_store.specs.Access.{taken, read_cells, write_cells, at_place}
 use Rattle.im_store.specs.Pointers.{moved_by, bytes_moved}
 use Rattle.im_typed.specs.declared.expression.Change.{Change}
@@ -65,22 +66,32 @@ write_at x at vs = do
   _ ← leave_store after
   give vs
 
+-- what a binary operator of a kind does with two numbers
+abbrev pub Operates : Type 0
+Operates = BinaryOp → Kind → ℤ → ℤ → Run ℤ
+
+-- each gives its result at once, or ends the run with what is against it (C11 6.5.5 to 6.5.12)
+abbrev pub computes : BinaryOp → Kind → ℤ → ℤ → Run ℤ
+computes op kind a b = checked (apply op kind a b)
+
 -- the kind of the cell that a change changes
 abbrev pub changed_kind : Change → Kind
 changed_kind (NumberBy kind op at) = kind
 changed_kind (PointerBy size back) = Ptr
 
 -- what a change makes of the old value: a number is converted to the operator's kind, and the result is converted back
-abbrev pub changed : Change → Value → ℤ → Store → Checked Value
-changed (NumberBy kind op at) old by store =
-    then_ (number_of old) (λ a. then_ (apply op at (wrap at a) by) (λ z. Fine (Number (wrap kind z))))
-changed (PointerBy size back) old by store = moved_by store (bytes_moved size back by) old
+abbrev pub changed : Operates → Change → Value → ℤ → Run Value
+changed operates (NumberBy kind op at) old by = do
+  a ← checked (number_of old)
+  z ← operates op at (wrap at a) by
+  give (Number (wrap kind z))
+changed operates (PointerBy size back) old by = in_store (λ store. moved_by store (bytes_moved size back by) old)
 
 -- changes what stands at a place by the number that a run gives; the old value is read first. Gives the old value or the new one
-abbrev pub update : Change → Bool → Run ℤ → Value → Run Values
-update change old amount at = do
+abbrev pub update : Operates → Change → Bool → Run ℤ → Value → Run Values
+update operates change old amount at = do
   before ← value_in (read_at (Scalar (changed_kind change)) at)
   by ← amount
-  after ← in_store (changed change before by)
+  after ← changed operates change before by
   _ ← write_at (Scalar (changed_kind change)) at (after ∷ [])
   scalar (if old then before else after)

@@ -103,15 +103,16 @@ pub fn missing_result()
     ensures { (input : List ℕ) → meaning uses_missing_result input 2 ≡ Undef MissingResult }
 {}
 
-/// `getchar` answers -1 at the end of the input, and `putchar` where the output is full (C11 7.21.7).
+/// `getchar` answers -1 at the end of the input, and `putchar` where the output is full (C11
+/// 7.21.7).
 pub fn input_and_output()
     ensures full { (input : List ℕ) → meaning writes_twice input 2 ≡ End 0 (negsuc 0) (97 ∷ []) [] }
     ensures empty { meaning reads_twice [] 2 ≡ End 0 (negsuc 1000) [] [] }
     ensures one_byte { meaning reads_twice (65 ∷ []) 2 ≡ End 0 (pos 64999) [] [] }
 {}
 
-/// A struct's cells are each looked up by offset and kind: they need not be one element's. The first
-/// that gives nothing decides (C11 6.5).
+/// A struct's cells are each looked up by offset and kind: they need not be one element's. The
+/// first that gives nothing decides (C11 6.5).
 pub fn struct_access()
     ensures element { (input : List ℕ) (fuel : ℕ) →
         meaning (reads_struct 1) input fuel ≡ End 0 (pos 34) [] (first_shown (reads_struct 1)) }
@@ -125,8 +126,8 @@ pub fn struct_access()
         meaning reads_unset_struct input fuel ≡ Undef UninitialisedRead }
 {}
 
-/// A member of a struct that stands at no place, and a struct that is copied onto itself (C11 6.5.2.3,
-/// 6.5.16.1).
+/// A member of a struct that stands at no place, and a struct that is copied onto itself (C11
+/// 6.5.2.3, 6.5.16.1).
 pub fn struct_values()
     ensures first { (input : List ℕ) (fuel : ℕ) →
         meaning (takes_part 1) input fuel ≡ End 0 (pos 1) [] [] }
@@ -136,8 +137,8 @@ pub fn struct_values()
         meaning copies_itself input fuel ≡ End 0 (pos 71) [] [] }
 {}
 
-/// The expressions of an initialiser are stored one after another, and the cells without one are zero
-/// (C11 6.7.9).
+/// The expressions of an initialiser are stored one after another, and the cells without one are
+/// zero (C11 6.7.9).
 pub fn initialisers()
     ensures in_order { (input : List ℕ) (fuel : ℕ) →
         meaning initialises_in_order input fuel ≡ End 0 (pos 3021) [] [] }
@@ -147,7 +148,8 @@ pub fn initialisers()
         meaning initialises_from_itself input fuel ≡ End 0 (pos 1) [] [] }
 {}
 
-/// A switch goes on through the labels behind the one that it enters, up to a `break` (C11 6.8.4.2).
+/// A switch goes on through the labels behind the one that it enters, up to a `break` (C11
+/// 6.8.4.2).
 pub fn switch_statement()
     ensures first { (input : List ℕ) (fuel : ℕ) →
         meaning (switches 1) input fuel ≡ End 0 (pos 11) [] [] }

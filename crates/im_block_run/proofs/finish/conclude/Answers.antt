@@ -1,4 +1,5 @@
-use Rattle.std.proofs.Common.{ℤ, subst, rules, w64}
+use Rattle.std.proofs.Common.{ℤ, subst, rules}
+use mir.Syntax.{w128}
 use Rattle.std.proofs.lemmas.Int.{to_z-of_z}
 use Rattle.std.specs.Prelude.{pos, IfOk, IfSome}
 use mir.Val.{SFits}
@@ -17,8 +18,8 @@ returns-in-StackExhausted c = rw c.in-StackExhausted.is (ended c.args.unit.now 1
 pub returns-in-Returned : goal.returns-in-Returned
 returns-in-Returned c =
     let n = c.in-Returned.number.value in
-    let f : SFits w64 n = search rules in
-    let e = to_z-of_z w64 n f in
+    let f : SFits w128 n = search rules in
+    let e = to_z-of_z w128 n f in
     let u = c.args.unit.now in
     let a = c.args.state in
     let r = c.end_of-in-Returned.result in

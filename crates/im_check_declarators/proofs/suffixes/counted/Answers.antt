@@ -1,4 +1,5 @@
-use Rattle.std.proofs.Common.{ℤ, Some, unsigned_abs, refl, sym, ap, inl, inr, rules, w64, ◌∙◌}
+use Rattle.std.proofs.Common.{◌≡◌, ℤ, Some, unsigned_abs, refl, sym, ap, inl, inr, rules, ◌∙◌}
+use mir.Syntax.{w128}
 use Rattle.std.proofs.lemmas.Int.{to_z-of_z}
 use Rattle.std.proofs.lemmas.Result.{err_from_is_err_and}
 use Rattle.im_rules.specs.Rules.{rule_6_length}
@@ -9,8 +10,8 @@ use mir.Val.{SFits}
 
 pub returns-then-not-is_count : goal.returns-then-not-is_count
 returns-then-not-is_count c =
-    let f : SFits w64 c.in-Some.count = search rules in
-    let e = to_z-of_z w64 c.in-Some.count f in
+    let f : SFits w128 c.in-Some.count = search rules in
+    let e = to_z-of_z w128 c.in-Some.count f in
     let same = ap (λ (z : ℤ). rule_6_length (Some z)) e in
     let n = sym same ∙ sym c.is_count.ensures ∙ c.if-not-is_count.true in
     rw c.in-Some.is (λ k constant known. (inr (inl (refl, n)), refl))
@@ -20,11 +21,11 @@ returns-in_err-element c =
     let p = err_from_is_err_and c.from_residual.result c.from_residual.ensures.1 in
     rw (p.1, p.2) (λ k constant e. count_fault k (record { constant = constant; type = type_of c.args.ty.now }) c.args.value c.args.at _ (c.in_err-element.ensures k constant (structs_counted k c.args.table.now c.struct_count.result e c.struct_count.ensures)))
 
-pub returns : goal.returns
-returns c =
-    let f : SFits w64 c.in-Some.count = search rules in
-    let e = to_z-of_z w64 c.in-Some.count f in
+pub returns-in-Ok : goal.returns-in-Ok
+returns-in-Ok c =
+    let f : SFits w128 c.in-Some.count = search rules in
+    let e = to_z-of_z w128 c.in-Some.count f in
     let same = ap (λ (z : ℤ). rule_6_length (Some z)) e in
     let positive = sym same ∙ sym c.is_count.ensures ∙ c.if-not-is_count.false in
-    let counted = c.unsigned_abs.ensures.value ∙ ap unsigned_abs e in
-    rw c.in-Some.is (λ k constant known. count_meets k (record { constant = constant; type = type_of c.args.ty.now }) c.in-Some.count c.unsigned_abs.result positive (c.in_ok-element.ensures k constant (structs_counted k c.args.table.now c.struct_count.result known c.struct_count.ensures)) counted)
+    let counted : c.in-Ok.number ≡ unsigned_abs c.in-Some.count = ap unsigned_abs (c.in-Ok.ensures ∙ e) in
+    rw c.in-Some.is (λ k constant known. count_meets k (record { constant = constant; type = type_of c.args.ty.now }) c.in-Some.count c.in-Ok.number positive (c.in_ok-element.ensures k constant (structs_counted k c.args.table.now c.struct_count.result known c.struct_count.ensures)) counted)

@@ -1,4 +1,5 @@
-use Rattle.std.proofs.Common.{true, not, cond, ◌++◌, [], ◌∷◌, refl, sym, ap, ◌∙◌, w64}
+use Rattle.std.proofs.Common.{true, not, cond, ◌++◌, [], ◌∷◌, refl, sym, ap, ◌∙◌}
+use mir.Syntax.{w128}
 use Rattle.std.proofs.lemmas.Int.{to_z-of_z}
 use Rattle.std.specs.BTreeSet.{contains}
 use Rattle.std.specs.Ordering.{int_cmp, int_eq}
@@ -10,7 +11,7 @@ pub returns : goal.returns
 returns c =
     let l = c.args.labels.now in
     let after : Labels = record { seen = c.insert.new.self; cases = c.push.new.self; otherwise = l.otherwise } in
-    let e = to_z-of_z w64 c.plain-z.result (record { sfits = c.plain-z.type_inv }) ∙ c.plain-z.ensures in
+    let e = to_z-of_z w128 c.plain-z.result (record { sfits = c.plain-z.type_inv }) ∙ c.plain-z.ensures in
     let grown = c.in_ok-push.ensures.items ∙ ap (λ w. l.cases.items ++ w ∷ []) c.case_of.ensures in
     record {
       is_fresh = sym c.if-not-branch.false ∙ c.in_ok-insert.ensures.added ∙ ap not (ap (λ w. contains int_cmp l.seen w) e ∙ c.requires c.args.value.value);

@@ -1,4 +1,5 @@
-use Rattle.std.proofs.Common.{◌≡◌, ◌∙◌, ℕ, ℤ, List, ap, map, subst, w64}
+use Rattle.std.proofs.Common.{◌≡◌, ◌∙◌, ℕ, ℤ, List, ap, map, subst}
+use mir.Syntax.{w128}
 use Rattle.std.proofs.lemmas.Int.{to_z-of_z}
 use Rattle.im_num.specs.declared.values.Var.{Var}
 use Rattle.im_num.specs.Variables.{Variable, variable_of}
@@ -20,5 +21,5 @@ returns c =
     subst (λ (ss : List Static). (last : ℕ) (store : Store) → Holds c.args.machine.memory last store → AreLive (map (static_of types) ss) store → map {A = Var} variable_of vars ≡ variables (map (static_of types) ss) store)
     c.deref.ensures.value c.in_ok-variables.ensures in
     λ last store h live.
-    ap (λ (z : ℤ). End reason z bytes (map {A = Var} variable_of vars)) (to_z-of_z w64 c.args.status c.ranges.status)
+    ap (λ (z : ℤ). End reason z bytes (map {A = Var} variable_of vars)) (to_z-of_z w128 c.args.status c.ranges.status)
     ∙ ap (λ (vs : List Variable). End reason c.args.status bytes vs) (told last store h live)

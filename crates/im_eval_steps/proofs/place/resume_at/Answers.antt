@@ -4,8 +4,8 @@ use Rattle.im_store.specs.Objects as o
 use Rattle.im_typed.specs.Program.{Scalar}
 use Rattle.im_typed.specs.ProgramOf.{access_of}
 use Rattle.im_typed.specs.Meaning.{value_of}
-use Rattle.im_typed.specs.Runs.{◌>>=◌, give, in_store}
-use Rattle.im_typed.specs.Values.{changed, changed_kind, read_at, scalar, update, used, value_in, write_at}
+use Rattle.im_typed.specs.Runs.{◌>>=◌, give}
+use Rattle.im_typed.specs.Values.{computes, changed, changed_kind, read_at, scalar, update, used, value_in, write_at}
 use Rattle.std.specs.Prelude.{pos, ℤ, ◌∷◌, []}
 use Rattle.im_eval_store.specs.Shown.{shown}
 use Rattle.im_eval_machine.specs.Settings.{setting_of}
@@ -68,7 +68,7 @@ returns-in_ok-before-in-Update-clause-goes c =
       i,
       amount-comes (value_in (read_at (Scalar (changed_kind by)) at) s) before s
           (value_of (in_activation (types_of code) (setting_of code) n here) (operand_in (types_of code) c.in-Update.by))
-          (λ (b : o.Value) (z : ℤ). in_store (changed by b z) >>= (λ w. write_at (Scalar (changed_kind by)) at (w ∷ []) >>= (λ _. scalar w)))
+          (λ (b : o.Value) (z : ℤ). changed computes by b z >>= (λ w. write_at (Scalar (changed_kind by)) at (w ∷ []) >>= (λ _. scalar w)))
           (λ vs. follows code n here ts (Valued vs)) (c.in_ok-before-in-Update.ensures s i),
     ))
 
@@ -78,7 +78,7 @@ returns-in_err-value-in-Increment-clause-goes c =
     let code = c.args.code in
     let w = c.in-Increment in
     rw (p.1, p.2, w.is) (λ n here ts s i.
-    halts-on c.in_err-value-in-Increment.field-0.0 c.increment.new.machine (update w.change w.old (give (pos 1)) (shown c.args.place) s) (λ vs. follows code n here ts (Valued vs)) (c.in_err-value-in-Increment.ensures.ends s i))
+    halts-on c.in_err-value-in-Increment.field-0.0 c.increment.new.machine (update computes w.change w.old (give (pos 1)) (shown c.args.place) s) (λ vs. follows code n here ts (Valued vs)) (c.in_err-value-in-Increment.ensures.ends s i))
 
 pub returns-in_ok-value-in-Increment-clause-goes : goal.returns-in_ok-value-in-Increment-clause-goes
 returns-in_ok-value-in-Increment-clause-goes c =
@@ -86,4 +86,4 @@ returns-in_ok-value-in-Increment-clause-goes c =
     let w = c.in-Increment in
     let value = c.in_ok-value-in-Increment.value in
     rw w.is (λ n here ts s i.
-    went code n here ts one value (Just (Value (One value))) c.increment.new.machine (update w.change w.old (give (pos 1)) (shown c.args.place) s) (λ vs. follows code n here ts (Valued vs)) (c.in_ok-value-in-Increment.ensures.ends s i) (λ t. refl))
+    went code n here ts one value (Just (Value (One value))) c.increment.new.machine (update computes w.change w.old (give (pos 1)) (shown c.args.place) s) (λ vs. follows code n here ts (Valued vs)) (c.in_ok-value-in-Increment.ensures.ends s i) (λ t. refl))

@@ -1,4 +1,4 @@
-use Rattle.std.proofs.Common.{◌≡◌, ◌∙◌, ap, sym, List, map, ◌++◌, Bor, refl}
+use Rattle.std.proofs.Common.{◌≡◌, ◌∙◌, ap, sym, List, map, ◌++◌, Bor}
 use Rattle.im_typed.specs.Program as p
 use Rattle.im_typed.specs.ProgramOf.{expr_of, place_of as typed_place}
 use Rattle.im_typed.specs.Runs.{◌>>=◌}
