@@ -12,9 +12,19 @@ pub struct Expression {
 }
 
 impl Drop for Expression {
+    /// A loop goes down first operands and what is cast, so that chains of them take no stack.
     #[cycle(tree)]
-    fn drop(self) {
-        let Expression { at: _, kind: _ } = self;
+    fn drop(mut self) {
+        loop {
+            let Expression { at: _, kind } = self;
+            match kind {
+                ExpressionKind::Index(first, _by) => self = Box::into_inner(first),
+                ExpressionKind::Call(first, _arguments) => self = Box::into_inner(first),
+                ExpressionKind::Cast(_name, first) => self = Box::into_inner(first),
+                ExpressionKind::Comma(first, _second) => self = Box::into_inner(first),
+                _ => return,
+            }
+        }
     }
 }
 
