@@ -1,3 +1,7 @@
+ghost use Rattle.std.specs.Prelude.{◌<◌, IfSome};
+ghost use Rattle.im_typed.specs.declared.expression.Expr.{size-Expr};
+ghost use Rattle.im_typed.specs.declared.expression.Place.{size-Place};
+
 use im_num::Kind;
 use im_serve::Service;
 use im_store::{BinaryOp, Comparison, UnaryOp};
@@ -42,6 +46,22 @@ impl Drop for Place {
             Place::Local(_) => {}
             Place::Target(_) => {}
             Place::Member(_, _) => {}
+        }
+    }
+}
+
+impl Place {
+    /// The pointer that a place is reached by, if it is reached by one.
+    fn into_pointer(mut self) -> Option<Expr>
+        ensures { IfSome result (λ pointer. size-Expr pointer < size-Place self) }
+    {
+        loop {
+            match self {
+                Place::Static(_) => return None,
+                Place::Local(_) => return None,
+                Place::Target(pointer) => return Some(Box::into_inner(pointer)),
+                Place::Member(whole, _) => self = Box::into_inner(whole),
+            }
         }
     }
 }
@@ -122,58 +142,68 @@ pub enum Expr {
 }
 
 impl Drop for Expr {
+    /// A loop goes down what is converted, what stands in front of a comma, and what an element is
+    /// one of, so that chains of them take no stack.
     #[cycle(expression)]
-    fn drop(self) {
-        match self {
-            Expr::Number(_, _) => {}
-            Expr::Null => {}
-            Expr::Read(_, _) => {}
-            Expr::Address(_) => {}
-            Expr::Convert(_, _) => {}
-            Expr::Unary(_, _, _) => {}
-            Expr::Binary(_, _, _, _) => {}
-            Expr::Move {
-                size: _,
-                back: _,
-                pointer: _,
-                by: _,
-            } => {}
-            Expr::MoveBy {
-                size: _,
-                by: _,
-                pointer: _,
-            } => {}
-            Expr::Distance {
-                size: _,
-                left: _,
-                right: _,
-            } => {}
-            Expr::Compare(_, _, _, _) => {}
-            Expr::Not(_) => {}
-            Expr::And(_, _) => {}
-            Expr::Or(_, _) => {}
-            Expr::Choose(_, _, _) => {}
-            Expr::Comma(_, _) => {}
-            Expr::Discard(_) => {}
-            Expr::Assign(_, _, _) => {}
-            Expr::Update {
-                place: _,
-                change: _,
-                by: _,
-            } => {}
-            Expr::Increment {
-                place: _,
-                change: _,
-                old: _,
-            } => {}
-            Expr::Part {
-                from: _,
-                access: _,
-                whole: _,
-            } => {}
-            Expr::Call(_, _) => {}
-            Expr::Serve(_) => {}
-            Expr::ServeWith(_, _) => {}
+    fn drop(mut self) {
+        loop {
+            match self {
+                Expr::Convert(_, operand) => self = Box::into_inner(operand),
+                Expr::Discard(operand) => self = Box::into_inner(operand),
+                Expr::Comma(left, _right) => self = Box::into_inner(left),
+                Expr::Move {
+                    size: _,
+                    back: _,
+                    pointer,
+                    by: _by,
+                } => self = Box::into_inner(pointer),
+                Expr::Read(_, place) => match Box::into_inner(place).into_pointer() {
+                    Some(pointer) => self = pointer,
+                    None => return,
+                },
+                Expr::Address(place) => match Box::into_inner(place).into_pointer() {
+                    Some(pointer) => self = pointer,
+                    None => return,
+                },
+                Expr::Number(_, _) => return,
+                Expr::Null => return,
+                Expr::Unary(_, _, _operand) => return,
+                Expr::Binary(_, _, _left, _right) => return,
+                Expr::MoveBy {
+                    size: _,
+                    by: _by,
+                    pointer: _pointer,
+                } => return,
+                Expr::Distance {
+                    size: _,
+                    left: _left,
+                    right: _right,
+                } => return,
+                Expr::Compare(_, _, _left, _right) => return,
+                Expr::Not(_operand) => return,
+                Expr::And(_left, _right) => return,
+                Expr::Or(_left, _right) => return,
+                Expr::Choose(_test, _first, _second) => return,
+                Expr::Assign(_, _place, _value) => return,
+                Expr::Update {
+                    place: _place,
+                    change: _,
+                    by: _by,
+                } => return,
+                Expr::Increment {
+                    place: _place,
+                    change: _,
+                    old: _,
+                } => return,
+                Expr::Part {
+                    from: _,
+                    access: _,
+                    whole: _whole,
+                } => return,
+                Expr::Call(_, _arguments) => return,
+                Expr::Serve(_) => return,
+                Expr::ServeWith(_, _operand) => return,
+            }
         }
     }
 }
