@@ -1,8 +1,10 @@
-ghost use Rattle.std.specs.Prelude.{◌≡◌, ◌-◌, ◌+◌, ◌*◌, ◌^◌, length, map, min, sum_by};
+ghost use Rattle.std.specs.Prelude.{◌≡◌, ◌-◌, ◌+◌, ◌*◌, ◌^◌, ◌<◌, IfSome, MatchOption, length, map, min, sum_by};
 ghost use Rattle.std.specs.Option.{option_map};
 ghost use Rattle.im_store.specs.im_ctype.Table.{Table};
 ghost use Rattle.im_store.specs.Objects.{same_kind};
 ghost use Rattle.im_typed.specs.ProgramOf.{access_of, place_of, expr_of, piece_of, stmt_of, object_of, func_of};
+ghost use Rattle.im_typed.specs.declared.expression.Expr.{size-Expr};
+ghost use Rattle.im_typed.specs.declared.expression.Place.{size-Place};
 ghost use Rattle.im_typed.specs.Counts.{struct_cells, conversions_in, place_nodes, expr_nodes, piece_nodes, optional_nodes, stmt_nodes, func_nodes, func_need, slot_bytes};
 
 use crate::expression::{Access, Change, Expr, Place};
@@ -65,14 +67,34 @@ fn change_conversions(change: Change) -> u64
     }
 }
 
+/// The nodes of a place and of the places that it is a member in, and the pointer that these are
+/// reached by, if they are reached by one.
+fn count_members(place: &Place) -> (u64, Option<&Expr>)
+    ensures nodes { (types : Table) → let whole = place_nodes (place_of types place.now) in
+        MatchOption result.1 (result.0 ≡ min whole (2 ^ 64 - 1))
+        (λ pointer. min (result.0 + expr_nodes (expr_of types pointer.now)) (2 ^ 64 - 1)
+        ≡ min whole (2 ^ 64 - 1)) }
+    ensures below { IfSome result.1 (λ pointer. size-Expr pointer.now < size-Place place.now) }
+{
+    let mut total: u64 = 0;
+    let mut part = place;
+    loop {
+        total = total.saturating_add(1);
+        match part {
+            Place::Static(_) | Place::Local(_) => return (total, None),
+            Place::Target(pointer) => return (total, Some(pointer)),
+            Place::Member(whole, _) => part = whole,
+        }
+    }
+}
+
 #[cycle(nodes)]
 fn count_place(place: &Place) -> u64
     ensures { (types : Table) → result ≡ min (place_nodes (place_of types place.now)) (2 ^ 64 - 1) }
 {
-    match place {
-        Place::Static(_) | Place::Local(_) => 1,
-        Place::Target(pointer) => count_expression(pointer).saturating_add(1),
-        Place::Member(whole, _) => count_place(whole).saturating_add(1),
+    match count_members(place) {
+        (members, None) => members,
+        (members, Some(pointer)) => count_expression(pointer).saturating_add(members),
     }
 }
 
@@ -83,8 +105,47 @@ fn node_over(left: u64, right: u64) -> u64
     left.saturating_add(right).saturating_add(1)
 }
 
+/// The nodes of an expression. A loop goes down what is converted, what stands in front of a
+/// comma, and what an element is one of, so that chains of them take no stack.
 #[cycle(nodes)]
 fn count_expression(expression: &Expr) -> u64
+    ensures { (types : Table) → result ≡ min (expr_nodes (expr_of types expression.now))
+        (2 ^ 64 - 1) }
+{
+    let mut total: u64 = 0;
+    let mut rest = expression;
+    loop {
+        match rest {
+            Expr::Convert(_, operand) | Expr::Discard(operand) => {
+                total = total.saturating_add(1);
+                rest = operand;
+            }
+            Expr::Comma(left, right) => {
+                total = total
+                    .saturating_add(1)
+                    .saturating_add(count_expression(right));
+                rest = left;
+            }
+            Expr::Move { pointer, by, .. } => {
+                total = total.saturating_add(1).saturating_add(count_expression(by));
+                rest = pointer;
+            }
+            Expr::Read(_, place) | Expr::Address(place) => {
+                let (members, pointer) = count_members(place);
+                total = total.saturating_add(1).saturating_add(members);
+                match pointer {
+                    None => return total,
+                    Some(pointer) => rest = pointer,
+                }
+            }
+            _ => return total.saturating_add(count_form(rest)),
+        }
+    }
+}
+
+/// The nodes of an expression whose operands are counted each for itself.
+#[cycle(nodes)]
+fn count_form(expression: &Expr) -> u64
     ensures { (types : Table) → result ≡ min (expr_nodes (expr_of types expression.now))
         (2 ^ 64 - 1) }
 {
