@@ -3,5 +3,4 @@ pub mod Forms
 pub mod BranchLines
 pub mod LoopLines
 pub mod ItemLines
-pub mod NameFacts
 pub mod Rows

@@ -1,16 +1,13 @@
-ghost use Rattle.std.specs.Prelude.{◌≡◌, ◌<◌, ◌^◌, ◌||◌, [], ◌∷◌, ◌++◌, MatchOption, MatchResult, IfOk, IfSome, length, map};
+ghost use Rattle.std.specs.Prelude.{◌≡◌, ◌<◌, ◌^◌, ◌++◌, MatchResult, IfOk, IfSome, length, map};
 ghost use Rattle.im_word.specs.Shown.{shown};
-ghost use Rattle.im_ctree.specs.Tree as t;
 ghost use Rattle.im_ctree.specs.Shape.{declaration_of, declarator_of, init_declarators_of};
 ghost use Rattle.im_ctree.specs.Typedefs as typedefs;
 ghost use Rattle.im_ctree.specs.Units.{IsDeclaration};
 ghost use Rattle.im_parse_core.specs.declared.stop.Stop.TheVariants.{Memory};
 ghost use Rattle.im_parse_expression.specs.Parsing.{Parses, Anything};
-ghost use Rattle.im_parse_statement.specs.Names.{specifier_tree, specifiers_list};
 
-use im_ctree::{
-    Core, Declaration, Declarator, InitDeclarator, Specifier, SpecifierKind, SpecifierWord,
-};
+use im_ctree::{Declaration, Declarator, InitDeclarator};
+use im_ctree_parts::{declared_name, has_typedef};
 use im_parse_core::{Stop, TypedefNames};
 use im_parse_expression::declaration;
 use im_word::Word;
@@ -29,41 +26,6 @@ fn find_name<'b>(words: &[Word<'b>], at: u32, name: &[u8]) -> Option<&'b [u8]>
         }
     }
     None
-}
-
-fn is_typedef(specifier: &Specifier) -> bool
-    ensures { (rest : t.SpecifierList) → typedefs.has_typedef
-        (t.more_specifiers (specifier_tree specifier.now) rest) ≡
-        (result || typedefs.has_typedef rest) }
-{
-    match &specifier.kind {
-        SpecifierKind::Word(SpecifierWord::Typedef) => true,
-        _ => false,
-    }
-}
-
-/// Whether `typedef` is one of the words.
-fn has_typedef(specifiers: &[Specifier]) -> bool
-    ensures { result ≡ typedefs.has_typedef (specifiers_list specifiers.now) }
-{
-    for specifier in specifiers {
-        if is_typedef(specifier) {
-            return true;
-        }
-    }
-    false
-}
-
-/// The name that a declarator declares, if it has one.
-fn declared_name(declarator: &Declarator) -> Option<&[u8]>
-    ensures { MatchOption result (typedefs.declared_name (declarator_of declarator.now) ≡ [])
-        (λ name. typedefs.declared_name (declarator_of declarator.now) ≡ name.now ∷ []) }
-{
-    match &declarator.core {
-        Core::Absent => None,
-        Core::Name(name) => Some(name),
-        Core::Inner(inner) => declared_name(inner),
-    }
 }
 
 /// Puts the name that a declarator declares before those that are known. Its bytes are those of the

@@ -1,18 +1,16 @@
 -- Typedef names, the last one declared standing last.
 use Rattle.std.proofs.Common.{◌≡◌, ◌<◌, ◌+◌, ◌||◌, ℕ, Bool, true, false, List, [], ◌∷◌, ◌++◌, length, drop, get_or, map, reverse, refl, sym, ap, ◌∙◌, Bor}
-use Rattle.std.specs.Prelude.{cond, bytes_eq}
+use Rattle.std.specs.Prelude.{bytes_eq}
 use Rattle.std.proofs.lemmas.List.{reverse-append, map-append, at_drop_more}
 use Rattle.im_word.specs.Words.{Name}
-use Rattle.im_ctree.specs.declared.specifier.Specifiers as ss
-use Rattle.im_ctree.specs.declared.declaration.Declaration.{Declaration}
 use Rattle.im_ctree.specs.declared.declarator.Declarator as dc
 use Rattle.im_ctree.specs.Tree as t
-use Rattle.im_ctree.specs.Shape.{declarator_of, init_declarators_of, declaration_of, core_of}
-use Rattle.im_ctree.specs.Typedefs.{adds_type, has_type_from, has_typedef, declared_names, typedef_names}
+use Rattle.im_ctree.specs.Shape.{declarator_of, core_of}
+use Rattle.im_ctree.specs.Typedefs.{adds_type, has_type_from}
 use Rattle.im_print_relation.specs.Printed.{is_among, begins_with_typedef}
 use Rattle.im_print_parts.specs.Output.{known}
-use Rattle.im_ctree_parts.specs.Lists.{list_from, stars_in, suffixes_from}
-use Rattle.im_ctree_parts.proofs.Shapes.{specifiers_shape, declarator_shape}
+use Rattle.im_ctree_parts.specs.Lists.{stars_in, suffixes_from}
+use Rattle.im_ctree_parts.proofs.Shapes.{declarator_shape}
 
 or-first : (a b c : Bool) → (a || (b || c)) ≡ (b || (a || c))
 or-first true true c = refl
@@ -43,15 +41,6 @@ pub known_pushed : (xs : List (Bor Name)) (x : Bor Name) → known (xs ++ x ∷ 
 known_pushed xs x =
     ap reverse (map-append (λ (one : Bor Name). one.now) xs (x ∷ []))
     ∙ reverse-append (map (λ (one : Bor Name). one.now) xs) (x.now ∷ [])
-
-behind_declaration : (T : List Name) (d : Declaration) → typedef_names T (declaration_of d) ≡ cond (has_typedef (list_from (ss.out-Specifiers d.specifiers).items.items)) (declared_names (init_declarators_of d.declarators.items) ++ T) T
-behind_declaration T d = ap (λ z. typedef_names T (t.declaration z (init_declarators_of d.declarators.items))) (specifiers_shape d.specifiers)
-
-pub remembers_none : (T : List Name) (d : Declaration) → has_typedef (list_from (ss.out-Specifiers d.specifiers).items.items) ≡ false → T ≡ typedef_names T (declaration_of d)
-remembers_none T d none = sym (behind_declaration T d ∙ ap (λ b. cond b (declared_names (init_declarators_of d.declarators.items) ++ T) T) none)
-
-pub remembers_some : (T : List Name) (d : Declaration) → has_typedef (list_from (ss.out-Specifiers d.specifiers).items.items) ≡ true → declared_names (init_declarators_of d.declarators.items) ++ T ≡ typedef_names T (declaration_of d)
-remembers_some T d some = sym (behind_declaration T d ∙ ap (λ b. cond b (declared_names (init_declarators_of d.declarators.items) ++ T) T) some)
 
 adds_to_type : (x : t.Specifier) → adds_type true x ≡ true
 adds_to_type (t.word_specifier p x) = refl

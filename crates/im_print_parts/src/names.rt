@@ -1,5 +1,4 @@
-ghost use Rattle.std.specs.Prelude.{◌≡◌, ◌||◌, Bool, false, [], ◌∷◌, ◌++◌, MatchOption, OnOk};
-ghost use Rattle.im_ctree.specs.Tree as t;
+ghost use Rattle.std.specs.Prelude.{◌≡◌, ◌||◌, Bool, false, ◌++◌, OnOk};
 ghost use Rattle.im_ctree.specs.Shape.{declaration_of, declarator_of, init_declarators_of};
 ghost use Rattle.im_ctree.specs.Typedefs as typedefs;
 ghost use Rattle.im_print_relation.specs.Printed as printed;
@@ -9,6 +8,7 @@ ghost use Rattle.im_ctree_parts.specs.Lists.{list_from, specifier_in};
 use im_ctree::{
     Core, Declaration, Declarator, InitDeclarator, Specifier, SpecifierKind, SpecifierWord,
 };
+use im_ctree_parts::{declared_name, has_typedef};
 use im_num::NoMemory;
 
 fn is_type_word(word: SpecifierWord) -> bool
@@ -49,41 +49,6 @@ pub fn has_type(specifiers: &[Specifier]) -> bool
         }
     }
     false
-}
-
-fn is_typedef(specifier: &Specifier) -> bool
-    ensures { (rest : t.SpecifierList) → typedefs.has_typedef
-        (t.more_specifiers (specifier_in specifier.now) rest) ≡
-        (result || typedefs.has_typedef rest) }
-{
-    match &specifier.kind {
-        SpecifierKind::Word(SpecifierWord::Typedef) => true,
-        _ => false,
-    }
-}
-
-/// Whether `typedef` is one of the specifiers.
-fn has_typedef(specifiers: &[Specifier]) -> bool
-    ensures { result ≡ typedefs.has_typedef (list_from specifiers.now) }
-{
-    for specifier in specifiers {
-        if is_typedef(specifier) {
-            return true;
-        }
-    }
-    false
-}
-
-/// The name that a declarator declares, if it has one.
-fn declared_name(declarator: &Declarator) -> Option<&[u8]>
-    ensures { MatchOption result (typedefs.declared_name (declarator_of declarator.now) ≡ [])
-        (λ name. typedefs.declared_name (declarator_of declarator.now) ≡ name.now ∷ []) }
-{
-    match &declarator.core {
-        Core::Absent => None,
-        Core::Name(name) => Some(name),
-        Core::Inner(inner) => declared_name(inner),
-    }
 }
 
 /// Puts the name that a declarator declares before those that are known.

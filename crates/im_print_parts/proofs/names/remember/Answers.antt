@@ -2,7 +2,7 @@ use Rattle.std.proofs.Common.{sym, ap, ◌∙◌}
 use Rattle.im_ctree.specs.Typedefs.{has_typedef}
 use Rattle.im_ctree_parts.specs.Lists.{list_from}
 use Rattle.im_print_parts.specs.Output.{known}
-use Rattle.im_print_parts.proofs.NameFacts.{remembers_none, remembers_some}
+use Rattle.im_ctree_parts.proofs.NameFacts.{remembers_none, remembers_some}
 use Rattle.im_print_parts.proofs.names.remember.Goals as goal
 
 pub returns-then-not-has_typedef : goal.returns-then-not-has_typedef
