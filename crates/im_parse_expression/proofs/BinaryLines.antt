@@ -187,17 +187,19 @@ opens_unary T q m at = record {
   ends = omega arith;
 }
 
-pub unparenthesised : {R : Type 0} (shape : R → tree.Expression) (T : List Name) (words : List Word) (p : ℕ) → (head (drop p words) ≡ Some (mark OpenParen) → ⊥) → (result : Result (R × ℕ) Stop) → Parses shape (g.IsUnary T) (Below 14) words p result → Parses shape (g.IsCast T) (Below 14) words p result
-unparenthesised shape T words p other result one =
-    handed shape words (line (g.IsUnary T) (λ t u d. g.uncast d) (λ t u r e d f. cast_other T p t u r (drop p words) other e d) (start (g.IsCast T) (Below 14) p (drop p words))) result one
+pub unparenthesised : {A : Type 0} {D : Family A} {E : Ending A} {s : ℕ} {w : List Word} {put : tree.Expression → A} (T : List Name) (words : List Word) (p : ℕ) → (head (drop p words) ≡ Some (mark OpenParen) → ⊥)
+    → Within D E s w (g.IsCast T) (Below 14) p (drop p words) put → Within D E s w (g.IsUnary T) (Below 14) p (drop p words) put
+unparenthesised T words p other from =
+    line (g.IsUnary T) (λ t u d. g.uncast d) (λ t u r e d f. cast_other T p t u r (drop p words) other e d) from
 
 -- the words behind the one at this place
 pub tail_at : (words : List Word) {x : Word} {p k : ℕ} → IsAt x words p k → head (tail (drop p words)) ≡ head (drop k words)
 tail_at words at = ap (λ z. head (tail z)) at.here
 
-pub untyped : {R : Type 0} (shape : R → tree.Expression) (T : List Name) (words : List Word) (p : ℕ) {k : ℕ} → IsAt (mark OpenParen) words p k → (BeginsSpecifiers T (head (drop k words)) → ⊥) → (result : Result (R × ℕ) Stop) → Parses shape (g.IsUnary T) (Below 14) words p result → Parses shape (g.IsCast T) (Below 14) words p result
-untyped shape T words p at other result one =
-    handed shape words (line_two (g.IsUnary T) (λ t u d. g.uncast d) (λ t u r e f d h. cast_untyped T p t u r (drop p words) (λ b. other (subst (BeginsSpecifiers T) (tail_at words at) b)) f d) (opens_unary T p (drop p words) (ap head at.here)) (start (g.IsCast T) (Below 14) p (drop p words))) result one
+pub untyped : {A : Type 0} {D : Family A} {E : Ending A} {s : ℕ} {w : List Word} {put : tree.Expression → A} (T : List Name) (words : List Word) (p : ℕ) {k : ℕ} → IsAt (mark OpenParen) words p k → (BeginsSpecifiers T (head (drop k words)) → ⊥)
+    → Within D E s w (g.IsCast T) (Below 14) p (drop p words) put → Within D E s w (g.IsUnary T) (Below 14) p (drop p words) put
+untyped T words p at other from =
+    line_two (g.IsUnary T) (λ t u d. g.uncast d) (λ t u r e f d h. cast_untyped T p t u r (drop p words) (λ b. other (subst (BeginsSpecifiers T) (tail_at words at) b)) f d) (opens_unary T p (drop p words) (ap head at.here)) from
 
 abbrev TypedLine : List Name → ℕ → Family tree.Expression
 TypedLine T s = After (mark OpenParen) (Both (g.IsTypeName T) (λ n. After (mark CloseParen) (Made (tree.cast s n) (g.IsCast T))))
@@ -229,18 +231,18 @@ opens_typed T q m at = record {
 }
 
 -- behind the parenthesis of a cast
-abbrev pub Cast : List Name → List Word → ℕ → ℕ → Type 0
-Cast T words p k = Within (g.IsCast T) (Below 14) p (drop p words) (Both (Closed CloseParen (g.IsTypeName T)) (λ n. Made (tree.cast p n) (g.IsCast T))) (Below 14) k (drop k words) (λ t. t)
+abbrev pub InCast : {A : Type 0} → Family A → Ending A → ℕ → List Word → List Name → List Word → ℕ → ℕ → (tree.Expression → A) → Type 0
+InCast D E s w T words p k put = Within D E s w (Both (Closed CloseParen (g.IsTypeName T)) (λ n. Made (tree.cast p n) (g.IsCast T))) (Below 14) k (drop k words) put
 
-pub cast_start : (words : List Word) {T : List Name} {p k : ℕ} → IsAt (mark OpenParen) words p k → BeginsSpecifiers T (head (drop k words)) → Cast T words p k
-cast_start words {T = T} {p = p} at begins =
-    as_closed (word at (line_two (TypedLine T p) (typed_into T p) (λ t u r e f d h. typed_back T p t u r (drop p words) (subst (BeginsSpecifiers T) (sym (tail_at words at)) begins) (ap head at.here) e f d) (opens_typed T p (drop p words) (ap head at.here)) (start (g.IsCast T) (Below 14) p (drop p words))))
+pub cast_start : {A : Type 0} {D : Family A} {E : Ending A} {s : ℕ} {w : List Word} {put : tree.Expression → A} (words : List Word) {T : List Name} {p k : ℕ} → IsAt (mark OpenParen) words p k → BeginsSpecifiers T (head (drop k words))
+    → Within D E s w (g.IsCast T) (Below 14) p (drop p words) put → InCast D E s w T words p k put
+cast_start words {T = T} {p = p} at begins from =
+    as_closed (word at (line_two (TypedLine T p) (typed_into T p) (λ t u r e f d h. typed_back T p t u r (drop p words) (subst (BeginsSpecifiers T) (sym (tail_at words at)) begins) (ap head at.here) e f d) (opens_typed T p (drop p words) (ap head at.here)) from))
 
-pub refuses_type : (words : List Word) {T : List Name} {p k n : ℕ} → Cast T words p k → Refuses (Closed CloseParen (g.IsTypeName T)) Anything k (drop k words) n (drop n words) → Refuses (g.IsCast T) (Below 14) p (drop p words) n (drop n words)
+pub refuses_type : {A : Type 0} {D : Family A} {E : Ending A} {s : ℕ} {w : List Word} {put : tree.Expression → A} (words : List Word) {T : List Name} {p k n : ℕ} → InCast D E s w T words p k put
+    → Refuses (Closed CloseParen (g.IsTypeName T)) Anything k (drop k words) n (drop n words) → Refuses D E s w n (drop n words)
 refuses_type words {T = T} {p = p} from one = refused (λ n q. let more = some_cast T q in (tree.cast p n more.0, more.1, made more.2)) (λ a q t v r d e. tt) one from
 
-pub refuses_cast : (words : List Word) {T : List Name} {p k l n : ℕ} {name : tree.TypeName} → Cast T words p k → Reads (Closed CloseParen (g.IsTypeName T)) Anything k (drop k words) name l (drop l words) → Refuses (g.IsCast T) (Below 14) l (drop l words) n (drop n words) → Refuses (g.IsCast T) (Below 14) p (drop p words) n (drop n words)
-refuses_cast words from type one = last_refused one (node (part (λ a q t v r d e. tt) type from))
-
-pub reads_cast : (words : List Word) {T : List Name} {p k l n : ℕ} {name : tree.TypeName} {a : tree.Expression} → Cast T words p k → Reads (Closed CloseParen (g.IsTypeName T)) Anything k (drop k words) name l (drop l words) → Reads (g.IsCast T) (Below 14) l (drop l words) a n (drop n words) → Reads (g.IsCast T) (Below 14) p (drop p words) (tree.cast p name a) n (drop n words)
-reads_cast words from type one = last one (node (part (λ a q t v r d e. tt) type from))
+pub cast_typed : {A : Type 0} {D : Family A} {E : Ending A} {s : ℕ} {w : List Word} {put : tree.Expression → A} (words : List Word) {T : List Name} {p k l : ℕ} {name : tree.TypeName} → InCast D E s w T words p k put
+    → Reads (Closed CloseParen (g.IsTypeName T)) Anything k (drop k words) name l (drop l words) → Within D E s w (g.IsCast T) (Below 14) l (drop l words) (λ a. put (tree.cast p name a))
+cast_typed words from type = node (part (λ a q t v r d e. tt) type from)

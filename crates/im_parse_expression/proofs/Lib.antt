@@ -4,6 +4,7 @@ pub mod Some
 pub mod ExpressionLines
 pub mod BinaryLines
 pub mod UnaryLines
+pub mod CastLines
 pub mod AssignLines
 pub mod PostfixLines
 pub mod ArgumentLines

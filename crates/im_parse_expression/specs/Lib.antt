@@ -3,3 +3,4 @@ pub mod Parsing
 pub mod Declaring
 pub mod Cores
 pub mod Initializing
+pub mod Casts

@@ -1,7 +1,9 @@
 ghost use Rattle.im_ctree.specs.Tree as t;
 ghost use Rattle.im_ctree.specs.Shape.{type_name_of};
+ghost use Rattle.im_parse_expression.specs.Casts.{cast_over};
 ghost use Rattle.im_parse_expression.specs.Parsing.{Builds, tree_of, items_tree};
 
+use super::casts::CastType;
 use im_ctree::{AssignOp, BinaryOp, Expression, ExpressionKind, StepOp, TypeName, UnaryOp};
 use im_parse_core::Stop;
 use std::alloc::Global;
@@ -100,6 +102,21 @@ pub fn cast(alloc: Global, at: u32, name: TypeName, operand: Expression) -> Resu
 {
     let kind = ExpressionKind::Cast(Box::new(alloc, name)?, Box::new(alloc, operand)?);
     Ok(Expression { at, kind })
+}
+
+/// An operand behind casts, of which the first is the outermost.
+pub fn casts(
+    alloc: Global,
+    mut types: Vec<CastType>,
+    operand: Expression,
+) -> Result<Expression, Stop>
+    ensures { Builds result (cast_over types.items (tree_of operand)) }
+{
+    let mut tree = operand;
+    while let Some(CastType { at, name }) = types.pop() {
+        tree = cast(alloc, at, name, tree)?;
+    }
+    Ok(tree)
 }
 
 pub fn binary(

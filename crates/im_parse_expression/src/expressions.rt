@@ -1,11 +1,14 @@
-ghost use Rattle.std.specs.Prelude.{◌≡◌, ◌<◌, ◌≤◌, ◌+◌, ◌^◌, ◌↔◌, IsTrue, false, length, map};
+ghost use Rattle.std.specs.Prelude.{◌≡◌, ◌<◌, ◌≤◌, ◌+◌, ◌^◌, ◌↔◌, IsTrue, MatchOption, MatchResult, false, length, map};
 ghost use Rattle.im_word.specs.Shown.{shown};
 ghost use Rattle.im_ctree.specs.Grammar.{IsExpression, IsAssignment, IsConditional, IsBinary, IsCast, IsUnary};
 ghost use Rattle.im_parse_expression.specs.Parsing.{Parses, Below, IsSized, tree_of, number_of, is_looser};
+ghost use Rattle.im_parse_expression.specs.Casts.{CastBegins, NoCastBegins, StandCasts};
 ghost use Rattle.im_parse_core.specs.Parts.{Made};
+ghost use Rattle.im_parse_core.specs.Places.{StopsAt};
 ghost use Rattle.im_ctree.specs.Tree.{size_of_expression};
 
 use super::build;
+use super::casts::CastType;
 use super::look::{assign_at, begins_specifiers, binary_at, expect_mark, prefix_at, step_at};
 use super::postfix::postfix;
 use super::type_name::closed_type_name;
@@ -127,6 +130,44 @@ fn binary(
     Ok((tree, next))
 }
 
+/// The place inside the parentheses of a cast, if one begins at this place (C11 6.5.4).
+fn cast_at(words: &[Word], names: &TypedefNames, at: u32) -> Option<u32>
+    requires { length words.now < 2 ^ 32 }
+    ensures { MatchOption result (NoCastBegins names.now (map shown words.now) at)
+        (CastBegins names.now (map shown words.now) at) }
+{
+    let inside = after_mark(words, at, Punctuator::OpenParen)?;
+    if begins_specifiers(words, names, inside) {
+        Some(inside)
+    } else {
+        None
+    }
+}
+
+/// The types of the casts that begin at this place, one behind the other, and the place behind
+/// them.
+#[cycle(expression)]
+fn cast_types(
+    alloc: Global,
+    words: &[Word],
+    names: &TypedefNames,
+    at: u32,
+) -> Result<(Vec<CastType>, u32), Stop>
+    requires { length words.now < 2 ^ 32 }
+    ensures { MatchResult result
+        (λ read. StandCasts names.now (map shown words.now) at read.0.items read.1)
+        (StopsAt (IsCast names.now) (Below 14) (map shown words.now) at) }
+{
+    let mut types = Vec::new(alloc);
+    let mut next = at;
+    while let Some(inside) = cast_at(words, names, next) {
+        let (name, behind) = closed_type_name(alloc, words, names, inside)?;
+        types.push(CastType { at: next, name })?;
+        next = behind;
+    }
+    Ok((types, next))
+}
+
 /// A cast expression (C11 6.5.4), and the place behind it.
 #[cycle(expression)]
 fn cast(
@@ -138,18 +179,10 @@ fn cast(
     requires { length words.now < 2 ^ 32 }
     ensures { Parses tree_of (IsCast names.now) (Below 14) (map shown words.now) at result }
 {
-    match after_mark(words, at, Punctuator::OpenParen) {
-        None => unary(alloc, words, names, at),
-        Some(inside) => {
-            if !begins_specifiers(words, names, inside) {
-                return unary(alloc, words, names, at);
-            }
-            let (name, behind) = closed_type_name(alloc, words, names, inside)?;
-            let (operand, end) = cast(alloc, words, names, behind)?;
-            let tree = build::cast(alloc, at, name, operand)?;
-            Ok((tree, end))
-        }
-    }
+    let (types, next) = cast_types(alloc, words, names, at)?;
+    let (operand, end) = unary(alloc, words, names, next)?;
+    let tree = build::casts(alloc, types, operand)?;
+    Ok((tree, end))
 }
 
 /// A unary expression (C11 6.5.3), and the place behind it.

@@ -4,6 +4,7 @@
 mod ahead;
 mod around;
 mod build;
+mod casts;
 mod core_start;
 mod declarations;
 mod declarators;

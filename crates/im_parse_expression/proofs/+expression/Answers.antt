@@ -1,6 +1,7 @@
 use Rattle.im_parse_expression.proofs.ArgumentLines.{arguments_more, arguments_next, arguments_start, misses_close, reads_arguments, reads_none, refuses_argument, with_item}
 use Rattle.im_parse_expression.proofs.AssignLines.{reads_left, refuses_left, refuses_loose, right}
-use Rattle.im_parse_expression.proofs.BinaryLines.{after_operator, as_cast, cast_start, reads_cast, refuses_cast, refuses_looser, refuses_operand, refuses_type, tails_done, tails_from, tails_more, unparenthesised, untyped}
+use Rattle.im_parse_expression.proofs.BinaryLines.{after_operator, as_cast, refuses_looser, refuses_operand, tails_done, tails_from, tails_more}
+use Rattle.im_parse_expression.proofs.CastLines.{InCasts, casts_done, casts_more, casts_refused}
 use Rattle.im_parse_expression.proofs.Exits.{handed, isnt, itis, stopped}
 use Rattle.im_parse_expression.proofs.ExpressionLines.{alternative, chosen_start, commas_done, commas_more, commas_next, commas_start, misses_colon, reads_choice, reads_condition, refuses_chosen, refuses_comma, refuses_condition, refuses_expression, refuses_other}
 use Rattle.im_parse_expression.proofs.PostfixLines.{after_primary, postfix_goes, postfix_more, arrow_start, bracket, call_start, called, dot_start, group_start, index_start, misses_bracket, misses_name, misses_paren, named, post_stepped, postfix_done, reads_group, refuses_call, refuses_group, refuses_index, refuses_primary}
@@ -113,20 +114,22 @@ expressions::binary-returns t c =
     let same : c.loop-tightest.tightest ≡ c.args.level = omega (arith, c.loop-tightest-test.false, c.loop-tightest.invariant.2) in
     subst (λ z. ReadsAt (g.IsBinary (c.args.names.now) z) (Below (z + 4)) (map shown c.args.words.now) c.args.at (tree_of c.loop-tightest.tree) c.loop-tightest.next) same c.loop-tightest.invariant.0
 
-pub expressions::cast-returns-in-None : goal.expressions::cast-returns-in-None
-expressions::cast-returns-in-None t c = unparenthesised tree_of (c.args.names.now) (map shown c.args.words.now) c.args.at c.in-None.ensures c.unary.result c.unary.ensures
+pub expressions::cast_types-returns-in_err-name : goal.expressions::cast_types-returns-in_err-name
+expressions::cast_types-returns-in_err-name t c =
+    let p = err_from_is_err_and c.from_residual.result c.from_residual.ensures.1 in
+    let words = map shown c.args.words.now in
+    rw (p.1, p.2) (stopped words (λ n h. casts_refused (c.args.names.now) words c.args.at c.loop-inside.next c.in-Some.inside n c.loop-inside.types.items c.loop-inside.invariant c.in-Some.ensures h) _ c.in_err-name.ensures)
 
-pub expressions::cast-returns-then-not-begins_specifiers : goal.expressions::cast-returns-then-not-begins_specifiers
-expressions::cast-returns-then-not-begins_specifiers t c = untyped tree_of (c.args.names.now) (map shown c.args.words.now) c.args.at c.in-Some.ensures (isnt c.begins_specifiers.result c.if-not-begins_specifiers.true c.begins_specifiers.ensures) c.unary-then-not-begins_specifiers.result c.unary-then-not-begins_specifiers.ensures
+pub expressions::cast_types-loop-inside-preserved :
+    goal.expressions::cast_types-loop-inside-preserved
+expressions::cast_types-loop-inside-preserved t c =
+    let words = map shown c.args.words.now in
+    let more = casts_more (c.args.names.now) words c.args.at c.loop-inside.next c.in-Some.inside c.in_ok-name.behind c.loop-inside.types.items (record { at = c.loop-inside.next; name = c.in_ok-name.name }) refl c.loop-inside.invariant c.in-Some.ensures c.in_ok-name.ensures in
+    subst (λ z. InCasts (c.args.names.now) words c.args.at z c.in_ok-name.behind) (sym c.in_ok-push.ensures.items) more
 
-pub expressions::cast-returns-in_err-name-in-Some : goal.expressions::cast-returns-in_err-name-in-Some
-expressions::cast-returns-in_err-name-in-Some t c = let p = err_from_is_err_and c.from_residual.result c.from_residual.ensures.1 in rw (p.1, p.2) (stopped (map shown c.args.words.now) (λ n h. refuses_type (map shown c.args.words.now) (cast_start (map shown c.args.words.now) c.in-Some.ensures (itis c.begins_specifiers.result c.if-not-begins_specifiers.false c.begins_specifiers.ensures)) h) _ c.in_err-name-in-Some.ensures)
-
-pub expressions::cast-returns-in_err-operand-in-Some : goal.expressions::cast-returns-in_err-operand-in-Some
-expressions::cast-returns-in_err-operand-in-Some t c = let p = err_from_is_err_and c.from_residual-in_err-operand-in-Some.result c.from_residual-in_err-operand-in-Some.ensures.1 in rw (p.1, p.2) (stopped (map shown c.args.words.now) (λ n h. refuses_cast (map shown c.args.words.now) (cast_start (map shown c.args.words.now) c.in-Some.ensures (itis c.begins_specifiers.result c.if-not-begins_specifiers.false c.begins_specifiers.ensures)) c.in_ok-name-in-Some.ensures h) _ c.in_err-operand-in-Some.ensures)
-
-pub expressions::cast-returns-in_ok-tree-in-Some : goal.expressions::cast-returns-in_ok-tree-in-Some
-expressions::cast-returns-in_ok-tree-in-Some t c = rw c.in_ok-tree-in-Some.ensures (reads_cast (map shown c.args.words.now) (cast_start (map shown c.args.words.now) c.in-Some.ensures (itis c.begins_specifiers.result c.if-not-begins_specifiers.false c.begins_specifiers.ensures)) c.in_ok-name-in-Some.ensures c.in_ok-operand-in-Some.ensures)
+pub expressions::cast_types-returns : goal.expressions::cast_types-returns
+expressions::cast_types-returns t c =
+    casts_done (c.args.names.now) (map shown c.args.words.now) c.args.at c.loop-inside.next c.loop-inside.types.items c.loop-inside.invariant c.in_default.ensures
 
 pub expressions::unary-returns-in_err-operand : goal.expressions::unary-returns-in_err-operand
 expressions::unary-returns-in_err-operand t c = let p = err_from_is_err_and c.from_residual.result c.from_residual.ensures.1 in rw (p.1, p.2) (stopped (map shown c.args.words.now) (λ n h. last_refused h (step_start (map shown c.args.words.now) c.in-Some.ensures)) _ c.in_err-operand.ensures)

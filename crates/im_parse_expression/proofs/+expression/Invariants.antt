@@ -7,6 +7,7 @@ use Rattle.im_parse_core.specs.Places.{ReadsAt}
 use Rattle.im_ctree.specs.Tree.{size_of_expression}
 use Rattle.im_parse_expression.proofs.ExpressionLines.{InCommas}
 use Rattle.im_parse_expression.proofs.BinaryLines.{InTails}
+use Rattle.im_parse_expression.proofs.CastLines.{InCasts}
 use Rattle.im_parse_expression.proofs.PostfixLines.{InPostfix}
 use Rattle.im_parse_expression.proofs.ArgumentLines.{InArguments}
 use Rattle.im_ctree.specs.Typedefs.{adds_type}
@@ -28,6 +29,17 @@ decreases-expressions::binary l = 32 * (length (map shown l.words.now) - l.at) +
 
 abbrev pub decreases-expressions::cast : goal.decreases-expressions::cast
 decreases-expressions::cast l = 32 * (length (map shown l.words.now) - l.at) + 6
+
+abbrev pub decreases-expressions::cast_types : goal.decreases-expressions::cast_types
+decreases-expressions::cast_types l = 32 * (length (map shown l.words.now) - l.at) + 5
+
+abbrev pub invariant-expressions::cast_types-loop-inside :
+    goal.invariant-expressions::cast_types-loop-inside
+invariant-expressions::cast_types-loop-inside l = InCasts (l.names) (map shown l.words) l.at l.types.items l.next
+
+abbrev pub decreases-expressions::cast_types-loop-inside :
+    goal.decreases-expressions::cast_types-loop-inside
+decreases-expressions::cast_types-loop-inside l = length (map shown l.words) - l.next
 
 abbrev pub decreases-expressions::conditional : goal.decreases-expressions::conditional
 decreases-expressions::conditional l = 32 * (length (map shown l.words.now) - l.at) + 18
