@@ -17,9 +17,9 @@ use Rattle.im_num.specs.declared.values.Cause.{Cause}
 use Rattle.im_rv.specs.declared.instr.Op.TheVariants.{Jalr, Lw, Sw, Addi, Add as AddOp}
 use Rattle.im_rv.specs.Lines.{CodeLine, plain_line}
 use Rattle.im_rv_reach.specs.Instructions.{with_immediate, on_registers, storing}
-use Rattle.im_rtlib.specs.Routines.{getchar_label, putchar_label, stack_label}
+use Rattle.im_rtlib.specs.Routines.{service_label, stack_label}
 use Rattle.im_store.specs.Objects.{Name}
-use Rattle.im_serve.specs.declared.service.Service.TheVariants.{Getchar, Putchar}
+use Rattle.im_serve.specs.declared.service.Service.{Service}
 use Rattle.im_block.specs.declared.code.Line.{Line}
 use Rattle.im_block.specs.declared.code.Line.TheVariants.{Cut, Call, Serve}
 use Rattle.im_block.specs.declared.code.Exit.{Exit}
@@ -37,6 +37,7 @@ use Rattle.im_select.specs.declared.distance.Distance.TheVariants.{Near, Far}
 use Rattle.im_select.specs.Emitted.{high_of, low_of, constant_by, constant_code, adds_by, adds_code, entry_label, labelled, call_code, cut_code, passed_by, way_code, lines_code, behind_each, leave_code, result_code, onward_code, test_line, test_code, test_or, taken_test, own_lines, is_next, branch_code, exit_code, is_empty, taking_code, block_code, laid_order, Laying, next_label, found_code, laid_block, laid_code, blocks_code, enter_code, prologue_code, function_code}
 use Rattle.im_select.specs.Places.{CallsBelow}
 use Rattle.im_select.proofs.Counting.{way_few}
+use Rattle.im_select.proofs.Services.{service_high}
 use Rattle.im_select.proofs.Taking.{IsTaken, Nothing, Comparing, takes, all_left}
 use Rattle.im_saved_lines.specs.Laws.{laid}
 use Rattle.im_saved_lines.proofs.Scanning.{both, same_of, same_is, IsPlain}
@@ -87,8 +88,7 @@ block_rank left f b = rank_by_entry (b == f.entry) (block_base + left b)
 
 pub record HasCallees (functions : ℕ) (at : ℕ → ℕ) : Type 0 where
   pub stops : at stack_label ≤ cut_rank
-  pub gets : at getchar_label ≤ entry_rank
-  pub puts : at putchar_label ≤ entry_rank
+  pub serves : (service : Service) → at (service_label service) ≤ entry_rank
   pub entries : (i : ℕ) → i < functions → at (entry_label i) ≡ entry_rank
 
 pub record BlockFacts (functions : ℕ) (left : ℕ → ℕ) (f : Function) (b : ℕ) (block : Block) : Type 0 where
@@ -264,10 +264,8 @@ module _ (at : ℕ → ℕ) (places : Name → ℕ) (m : ℕ → ℕ → ℕ) (o
   lines_most n needed before j [] tail exit behind h c = h
   lines_most n needed before j (Cut cause ∷ lines) tail exit behind h c = omega arith
   lines_most n needed before j (Call to i start given ∷ lines) tail exit behind h c = let e = callees.entries i (All-head (CallsBelow functions) (Call to i start given) lines c) in omega arith
-  lines_most n needed before j (Serve to Getchar None ∷ lines) tail exit behind h c = let e = callees.gets in omega arith
-  lines_most n needed before j (Serve to Getchar (Some from) ∷ lines) tail exit behind h c = let e = callees.gets in omega arith
-  lines_most n needed before j (Serve to Putchar None ∷ lines) tail exit behind h c = let e = callees.puts in omega arith
-  lines_most n needed before j (Serve to Putchar (Some from) ∷ lines) tail exit behind h c = let e = callees.puts in omega arith
+  lines_most n needed before j (Serve to service None ∷ lines) tail exit behind h c = let e = callees.serves service in omega arith
+  lines_most n needed before j (Serve to service (Some from) ∷ lines) tail exit behind h c = let e = callees.serves service in omega arith
   lines_most n needed before j (line ∷ lines) tail exit behind h c =
       work_most n needed (passed_by (needed (suc j)) line lines) before j line lines (cost_on left (lines ++ tail) exit) behind tt (λ z. z)
       (lines_most n needed (passed_by (needed (suc j)) line lines) (suc j) lines tail exit behind h (All-tail (CallsBelow functions) line lines c))
@@ -279,21 +277,13 @@ module _ (at : ℕ → ℕ) (places : Name → ℕ) (m : ℕ → ℕ → ℕ) (o
       ranked_append at (call_code 1 (entry_label i)) (lines_code places n needed None (suc j) lines) behind
       (jump_ranked 1 (entry_label i) (scan at (lines_code places n needed None (suc j) lines) behind) (λ e. absurd (omega arith)) (omega arith) (λ e. (let s = starts n needed None (suc j) lines behind k.0 in omega arith)))
       (lines_ranked n needed None (suc j) lines behind o k.1)
-  lines_ranked n needed before j (Serve to Getchar None ∷ lines) behind o k =
-      ranked_append at (call_code 1 getchar_label) (lines_code places n needed None (suc j) lines) behind
-      (jump_ranked 1 getchar_label (scan at (lines_code places n needed None (suc j) lines) behind) (λ e. absurd (omega arith)) (omega arith) (λ e. (let s = starts n needed None (suc j) lines behind k.0 in omega arith)))
+  lines_ranked n needed before j (Serve to service None ∷ lines) behind o k =
+      ranked_append at (call_code 1 (service_label service)) (lines_code places n needed None (suc j) lines) behind
+      (jump_ranked 1 (service_label service) (scan at (lines_code places n needed None (suc j) lines) behind) (λ e. absurd (omega arith)) (service_high service) (λ e. (let s = starts n needed None (suc j) lines behind k.0 in omega arith)))
       (lines_ranked n needed None (suc j) lines behind o k.1)
-  lines_ranked n needed before j (Serve to Getchar (Some from) ∷ lines) behind o k =
-      ranked_append at (call_code 1 getchar_label) (lines_code places n needed None (suc j) lines) behind
-      (jump_ranked 1 getchar_label (scan at (lines_code places n needed None (suc j) lines) behind) (λ e. absurd (omega arith)) (omega arith) (λ e. (let s = starts n needed None (suc j) lines behind k.0 in omega arith)))
-      (lines_ranked n needed None (suc j) lines behind o k.1)
-  lines_ranked n needed before j (Serve to Putchar None ∷ lines) behind o k =
-      ranked_append at (call_code 1 putchar_label) (lines_code places n needed None (suc j) lines) behind
-      (jump_ranked 1 putchar_label (scan at (lines_code places n needed None (suc j) lines) behind) (λ e. absurd (omega arith)) (omega arith) (λ e. (let s = starts n needed None (suc j) lines behind k.0 in omega arith)))
-      (lines_ranked n needed None (suc j) lines behind o k.1)
-  lines_ranked n needed before j (Serve to Putchar (Some from) ∷ lines) behind o k =
-      ranked_append at (call_code 1 putchar_label) (lines_code places n needed None (suc j) lines) behind
-      (jump_ranked 1 putchar_label (scan at (lines_code places n needed None (suc j) lines) behind) (λ e. absurd (omega arith)) (omega arith) (λ e. (let s = starts n needed None (suc j) lines behind k.0 in omega arith)))
+  lines_ranked n needed before j (Serve to service (Some from) ∷ lines) behind o k =
+      ranked_append at (call_code 1 (service_label service)) (lines_code places n needed None (suc j) lines) behind
+      (jump_ranked 1 (service_label service) (scan at (lines_code places n needed None (suc j) lines) behind) (λ e. absurd (omega arith)) (service_high service) (λ e. (let s = starts n needed None (suc j) lines behind k.0 in omega arith)))
       (lines_ranked n needed None (suc j) lines behind o k.1)
   lines_ranked n needed before j (line ∷ lines) behind o k =
       let passed : Option ℕ = passed_by (needed (suc j)) line lines in
@@ -506,10 +496,8 @@ module _ (at : ℕ → ℕ) (places : Name → ℕ) (m : ℕ → ℕ → ℕ) (o
       one : (x : Line) → HasLittleLeft top (x ∷ (lines ++ tail)) exit → AreWithin at top (way_code places (n j) passed before x) onward
       one (Cut cause) k = ((λ jumps cut. (let most = lines_most n needed passed (suc j) lines tail exit behind h later in let less = k [] cause (lines ++ tail) refl in omega arith)), tt)
       one (Call to i start given) k = jump_within top 1 (entry_label i) onward (λ e. absurd (omega arith))
-      one (Serve to Getchar None) k = jump_within top 1 getchar_label onward (λ e. absurd (omega arith))
-      one (Serve to Getchar (Some from)) k = jump_within top 1 getchar_label onward (λ e. absurd (omega arith))
-      one (Serve to Putchar None) k = jump_within top 1 putchar_label onward (λ e. absurd (omega arith))
-      one (Serve to Putchar (Some from)) k = jump_within top 1 putchar_label onward (λ e. absurd (omega arith))
+      one (Serve to service None) k = jump_within top 1 (service_label service) onward (λ e. absurd (omega arith))
+      one (Serve to service (Some from)) k = jump_within top 1 (service_label service) onward (λ e. absurd (omega arith))
       one x k = plain_within at top (way_code places (n j) passed before x) onward (way_plain places (n j) passed before x tt)
 
   block_within : (top : ℕ) (next : Option ℕ) (b : ℕ) (block : Block) (behind : After) → BlockFacts functions left f b block → HasLittleLeft top block.lines.items block.exit → Meets at next behind → AreWithin at top (code_of next b block) behind

@@ -12,7 +12,7 @@ use Rattle.im_rv.specs.Code.{address}
 use Rattle.im_rv_reach.specs.Instructions.{Holds}
 use Rattle.im_link.specs.Parts.{first_of}
 use Rattle.im_link.specs.Code.{IsLinkable, IsLinked as IsLinkedCode}
-use Rattle.im_rtlib.specs.Routines.{getchar_label, putchar_label, stack_label}
+use Rattle.im_rtlib.specs.Routines.{service_label, stack_label}
 use Rattle.im_rtlib_laws.specs.Standing.{aimed_at}
 use Rattle.im_store.specs.Objects.{Name, Named, Slot, Shape, shape_of}
 use Rattle.im_block.specs.declared.code.Line.{Line}
@@ -61,7 +61,7 @@ block_in functions i b f e h =
 -- the labels of function i's lines, read for the whole program
 abbrev pub lines_at : List Function → ℕ → List CodeLine → (Name → ℕ) → Lines
 lines_at functions i code at =
-    record { lines = code; at = at; block = block_of functions i; entry = entry_of functions; full = stack_label; checkpoint = save_of; puts = putchar_label; gets = getchar_label }
+    record { lines = code; at = at; block = block_of functions i; entry = entry_of functions; full = stack_label; checkpoint = save_of; serves = service_label }
 
 object_there : (f : Function) (n : ℕ) → HasObject f n → (sh : Shape) × (shapes_of f (Named n) ≡ Some sh)
 object_there f n h =
@@ -91,8 +91,7 @@ agrees u statics layouts parts program p g objects i f e =
       entries = λ j h. entry_in u.functions.items j h;
       checkpoint = λ m o. ap (λ b. if b then m else stack_label) (below m 32 o.1);
       full = refl;
-      puts = refl;
-      gets = refl;
+      serves = λ service. refl;
     }
 
 -- ---- the lines that blocks begin with matter for blocks that are there alone
@@ -167,8 +166,7 @@ function_at u statics layouts parts program linked place image g at size linkabl
       entry = λ n. refl;
       full = refl;
       checkpoint = λ m. refl;
-      puts = refl;
-      gets = refl;
+      serves = λ service. refl;
     } in
     lines p g i f w place starts framed selected laid
   where

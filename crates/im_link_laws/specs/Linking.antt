@@ -6,7 +6,7 @@ use Rattle.im_rv.specs.declared.code.Code.{Code as Linked}
 use Rattle.im_rv.specs.Code.{address}
 use Rattle.im_link.specs.Parts.{lines_of}
 use Rattle.im_link.specs.Links.{StandsAt}
-use Rattle.im_rtlib.specs.Routines.{getchar_label, putchar_label, stack_label}
+use Rattle.im_rtlib.specs.Routines.{service_label, stack_label}
 use Rattle.im_store.specs.Objects.{Name}
 use Rattle.im_block.specs.declared.unit.Function.{Function}
 use Rattle.im_select_relation.specs.Linking.{Linking}
@@ -42,8 +42,7 @@ linking_of functions place code image at size =
       place = λ i b. place (block_of functions i b);
       begin = code.entry;
       full = place stack_label;
-      puts = place putchar_label;
-      gets = place getchar_label;
+      serves = λ service. place (service_label service);
       checkpoint = λ m. place (save_of m);
       longest = 71;
       flips = 3;

@@ -14,12 +14,14 @@ use Rattle.im_rv.specs.Decode.{Line as Instruction}
 use Rattle.im_rv.specs.Lines.{CodeLine, plain_line}
 use Rattle.im_rv_reach.specs.Instructions.{with_immediate, branching, jumping}
 use Rattle.im_gap.specs.declared.flow.Turn.TheVariants.{Branches}
-use Rattle.im_rtlib.specs.Routines.{aimed}
+use Rattle.im_rtlib.specs.Routines.{service_label, aimed}
 use Rattle.im_store.specs.declared.operators.BinaryOp.{BinaryOp}
 use Rattle.im_store.specs.declared.operators.Comparison.{Comparison}
 use Rattle.im_store.specs.declared.operators.Comparison.TheVariants.{Less, Greater, LessOrEqual, GreaterOrEqual, Equal, NotEqual}
 use Rattle.im_store.specs.Objects.{Name}
+use Rattle.im_serve.specs.declared.service.Service.{Service}
 use Rattle.im_serve.specs.declared.service.Service.TheVariants.{Getchar, Putchar}
+use Rattle.im_serve.specs.Services.{row, IsNullary, IsUnary}
 use Rattle.im_block.specs.declared.code.Place.{Place}
 use Rattle.im_block.specs.declared.code.Place.TheVariants.{Static, Local, Through}
 use Rattle.im_block.specs.declared.code.Line.{Line}
@@ -39,6 +41,7 @@ use Rattle.im_select.specs.declared.distance.Distance.{Distance as Reach}
 use Rattle.im_select.specs.declared.distance.Distance.TheVariants.{Near, Far}
 use Rattle.im_select.specs.Emitted.{entry_label, cut_code, result_code, call_code, word_taken, passed_by, line_code, lines_code, behind_each, adds_code, leave_code, onward_code, both_ways, test_op, test_code, test_or, taken_test, own_lines, is_next, branch_code, exit_code, is_empty, taking_code}
 use Rattle.im_select.proofs.Pairing.{lines_alone, lines_paired, Folds, folds, IsImmediate, immediate_of}
+use Rattle.im_select.proofs.Services.{service_low, service_high}
 use Rattle.im_select.proofs.Parts.{IsBehind, behind_tail, word_cases}
 use Rattle.im_select.proofs.Taking.{IsTaken, Nothing, Comparing, takes as parted, test_branches}
 use Rattle.im_saved_lines.specs.Scan.{Goes, IsSoundLine, way, is_base, is_returned, After, onward, scan, AreSound}
@@ -46,6 +49,17 @@ use Rattle.im_saved_lines.specs.Laws.{lives_inside, IsLow, HasEntries, HasBlocks
 use Rattle.im_saved_lines.proofs.Scanning.{both, both_are, either, or_left, or_right, same_of, same_is, other_is, IsUnsaved, unsaved_not, unsaved_true, or_unsaved, scan_append, sound_append, Lives, First, Second, Later, line_lives, plain_sound, Wants, plain_wants}
 use Rattle.im_saved_lines.proofs.Plain.{adds_plain, adds_wants}
 use Rattle.im_saved_lines.proofs.Working.{immediate_way, work_plain, work_wants}
+
+-- ---- the label of a service
+
+-- at most the argument lives there
+service_lives : (service : Service) (r : ℕ) → lives_inside (service_label service) r ≡ true → IsUnary (row service).parameter × (r ≡ 10)
+service_lives Getchar r e = absurd cc
+service_lives Putchar r e = elim (either (r == 10) false e) [ inl a ↦ (tt, same_of r 10 a) | inr b ↦ absurd cc ]
+
+not_both : (parameter : Option Kind) → IsNullary parameter → IsUnary parameter → ⊥
+not_both None nullary unary = unary
+not_both (Some kind) nullary unary = nullary
 
 -- ---- registers that lines of placed code use are homes
 
@@ -416,15 +430,11 @@ module _ (functions : List Function) (statics first count frame : ℕ) (f : Func
   line_before : (k : ℕ) (line : Line) (behind : After) (r : ℕ) → IsPlacedLine statics f line → LineThere functions line → IsUnsaved r → (scan at (line_code places k line) behind).next r ≡ true → Before line behind r
   line_before k (Cut cause) behind r h t u w = inr (refl, cut_before at k cause behind r u w)
   line_before k (Call to i start given) behind r h t u w = inl (or_left (uses (Call to i start given) r) (true && r == 2) (called i start given r h.1 (takes (slice_get functions i) i given r refl t u (jump_before at 1 (entry_label i) behind r refl u w))))
-  line_before k (Serve to Putchar None) behind r h t u w = absurd h.1
-  line_before k (Serve to Getchar (Some from)) behind r h t u w = absurd h.2
-  line_before k (Serve to Getchar None) behind r h t u w = let away = label_only 32 r (omega arith) u (jump_before at 1 32 behind r refl u w) in absurd cc
-  line_before k (Serve to Putchar (Some from)) behind r h t u w =
-      let is : r ≡ 10 = ten (label_only 33 r (omega arith) u (jump_before at 1 33 behind r refl u w)) in
+  line_before k (Serve to service None) behind r h t u w =
+      absurd (not_both (row service).parameter h.1 (service_lives service r (label_only (service_label service) r (service_low service) u (jump_before at 1 (service_label service) behind r refl u w))).0)
+  line_before k (Serve to service (Some from)) behind r h t u w =
+      let is : r ≡ 10 = (service_lives service r (label_only (service_label service) r (service_low service) u (jump_before at 1 (service_label service) behind r refl u w))).1 in
       inl (or_left (r == from) (true && r == 2) (same_is r from (is ∙ sym h.1)))
-    where
-      ten : lives_inside 33 r ≡ true → r ≡ 10
-      ten e = elim (either (r == 10) false e) [ inl a ↦ same_of r 10 a | inr b ↦ absurd cc ]
   line_before k line behind r h t u w = work_before line behind r (λ q. refl) (work_wants places k line tt (behind.next r ≡ true) r u (plain_wants at (line_code places k line) behind r (work_plain places k line tt) u w))
 
   -- a line that takes nothing and passes nothing on
@@ -526,17 +536,11 @@ module _ (functions : List Function) (statics first count frame : ℕ) (f : Func
   line_sound n (Call to i start given) rest exit behind k home s v =
       jump_sound at 1 (entry_label i) behind (λ e. absurd (omega arith)) (omega arith)
       (λ e r w. returned_of r (elim (or_unsaved ((is_base r ≡ true) ⊎ (r ≡ 10)) r (λ u. s.0 tt r (k r u w))) [ inl a ↦ inl a | inr b ↦ b ]))
-  line_sound n (Serve to Getchar None) rest exit behind k home s v =
-      jump_sound at 1 32 behind (λ e. absurd (omega arith)) (omega arith)
+  line_sound n (Serve to service None) rest exit behind k home s v =
+      jump_sound at 1 (service_label service) behind (λ e. absurd (omega arith)) (service_high service)
       (λ e r w. returned_of r (elim (or_unsaved ((is_base r ≡ true) ⊎ (r ≡ 10)) r (λ u. s.0 tt r (k r u w))) [ inl a ↦ inl a | inr b ↦ b ]))
-  line_sound n (Serve to Getchar (Some from)) rest exit behind k home s v =
-      jump_sound at 1 32 behind (λ e. absurd (omega arith)) (omega arith)
-      (λ e r w. returned_of r (elim (or_unsaved ((is_base r ≡ true) ⊎ (r ≡ 10)) r (λ u. s.0 tt r (k r u w))) [ inl a ↦ inl a | inr b ↦ b ]))
-  line_sound n (Serve to Putchar None) rest exit behind k home s v =
-      jump_sound at 1 33 behind (λ e. absurd (omega arith)) (omega arith)
-      (λ e r w. returned_of r (elim (or_unsaved ((is_base r ≡ true) ⊎ (r ≡ 10)) r (λ u. s.0 tt r (k r u w))) [ inl a ↦ inl a | inr b ↦ b ]))
-  line_sound n (Serve to Putchar (Some from)) rest exit behind k home s v =
-      jump_sound at 1 33 behind (λ e. absurd (omega arith)) (omega arith)
+  line_sound n (Serve to service (Some from)) rest exit behind k home s v =
+      jump_sound at 1 (service_label service) behind (λ e. absurd (omega arith)) (service_high service)
       (λ e r w. returned_of r (elim (or_unsaved ((is_base r ≡ true) ⊎ (r ≡ 10)) r (λ u. s.0 tt r (k r u w))) [ inl a ↦ inl a | inr b ↦ b ]))
   line_sound n line rest exit behind k home s v = plain_sound at (line_code places n line) behind (work_plain places n line tt)
 

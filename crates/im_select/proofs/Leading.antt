@@ -11,7 +11,6 @@ use Rattle.im_rv.specs.Lines.{CodeLine, plain_line}
 use Rattle.im_store.specs.declared.operators.UnaryOp.TheVariants.{Negate, Complement}
 use Rattle.im_store.specs.declared.operators.Comparison.TheVariants.{Less, Greater, LessOrEqual, GreaterOrEqual, Equal, NotEqual}
 use Rattle.im_store.specs.Objects.{Name, Slot}
-use Rattle.im_serve.specs.declared.service.Service.TheVariants.{Getchar, Putchar}
 use Rattle.im_block.specs.declared.code.Line.{Line}
 use Rattle.im_block.specs.declared.code.Line.TheVariants.{Put, PutNull, Copy, Convert, Unary, Not, Compute, Compare, Move, Distance as Measure, Address, Read, Write, Reload, Spill, Cut, Call, Serve}
 use Rattle.im_block.specs.declared.code.Exit.{Exit}
@@ -25,6 +24,7 @@ use Rattle.im_select.specs.declared.distance.Distance.TheVariants.{Near, Far}
 use Rattle.im_select.specs.Emitted.{constant_code, displaced_code, adds_code, place_number, place_code, copied_code, scaled_code, address_code, call_code, computed_code, immediate_line, passed_by, by_or, way_code, line_code, lines_code, behind_each, leave_code, result_code, onward_code, test_op, test_code, test_or, taken_test, own_lines, taking_code, is_next, branch_code, exit_code, is_empty, Laying, next_label, found_code, laid_block, laid_code, laid_order, blocks_code, enter_code, prologue_code, function_code, labelled, entry_label}
 use Rattle.im_select_relation.specs.Selected.{IsEntry}
 use Rattle.im_select.specs.Places.{CallsBelow}
+use Rattle.im_rtlib.specs.Routines.{service_label}
 use Rattle.im_select.specs.Selects.{HasLabel, IsTarget, IsNear, LeadsTo, IsClosedBlock, laying_of}
 use Rattle.im_select.proofs.Low.{there}
 use Rattle.im_select.proofs.Taking.{takes, all_left, test_branches}
@@ -81,11 +81,8 @@ line_sound names whole at m (Write place kind from access) o h = both names whol
 line_sound names whole at m (Reload to slot access) o h = both names whole (displaced_code 2 (at (Slot slot))) _ (bare names whole (displaced_code 2 (at (Slot slot))) (displaced_bare 2 (at (Slot slot)))) (silent names whole _ refl refl)
 line_sound names whole at m (Spill slot from access) o h = both names whole (displaced_code 2 (at (Slot slot))) _ (bare names whole (displaced_code 2 (at (Slot slot))) (displaced_bare 2 (at (Slot slot)))) (silent names whole _ refl refl)
 line_sound names whole at m (Cut cause) o h = ((refl, tt), ((λ l e. leads names whole m _ refl (inl o) l e), tt))
-line_sound names whole at m (Call to i first count) o h = ((refl, tt), ((λ l e. leads names whole (entry_label i) _ refl (inr (inr (inr (inr (inl (i, h, refl)))))) l e), tt))
-line_sound names whole at m (Serve to Getchar None) o h = ((refl, tt), ((λ l e. leads names whole 32 _ refl (inr (inl refl)) l e), tt))
-line_sound names whole at m (Serve to Getchar (Some from)) o h = ((refl, tt), ((λ l e. leads names whole 32 _ refl (inr (inl refl)) l e), tt))
-line_sound names whole at m (Serve to Putchar None) o h = ((refl, tt), ((λ l e. leads names whole 33 _ refl (inr (inr (inl refl))) l e), tt))
-line_sound names whole at m (Serve to Putchar (Some from)) o h = ((refl, tt), ((λ l e. leads names whole 33 _ refl (inr (inr (inl refl))) l e), tt))
+line_sound names whole at m (Call to i first count) o h = ((refl, tt), ((λ l e. leads names whole (entry_label i) _ refl (inr (inr (inr (inl (i, h, refl))))) l e), tt))
+line_sound names whole at m (Serve to service from) o h = ((refl, tt), ((λ l e. leads names whole (service_label service) _ refl (inr (inl (service, refl))) l e), tt))
 
 way_sound : (names : Given) (whole : List CodeLine) (at : Name → ℕ) (m : ℕ) (passed before : Option ℕ) (line : Line) → IsEntry m → CallsBelow names.functions line → Sound names whole (way_code at m passed before line)
 way_sound names whole at m None before (Put to z) o h = line_sound names whole at m (Put to z) o h
@@ -105,7 +102,7 @@ lines_sound names whole at m needed before j (line ∷ lines) o h =
     both names whole (way_code at (m j) passed before line) (lines_code at m needed passed (suc j) lines) (way_sound names whole at (m j) passed before line (o j) (All-head (CallsBelow names.functions) line lines h)) (lines_sound names whole at m needed passed (suc j) lines o (All-tail (CallsBelow names.functions) line lines h))
 
 block_target : (names : Given) (b : ℕ) → b < length names.function.blocks.items → IsTarget names (names.first_block + b)
-block_target names b h = inr (inr (inr (inr (inr (b, h, refl)))))
+block_target names b h = inr (inr (inr (inr (b, h, refl))))
 
 jump_sound : (names : Given) (whole : List CodeLine) (b : ℕ) → b < length names.function.blocks.items → Sound names whole (call_code 0 (names.first_block + b))
 jump_sound names whole b h = ((refl, tt), ((λ l e. leads names whole (names.first_block + b) _ refl (block_target names b h) l e), tt))
@@ -177,7 +174,7 @@ laid_lead names live distance whole (b ∷ rest) k =
 enter_sound : (names : Given) (whole : List CodeLine) → Sound names whole enter_code
 enter_sound names whole = (
   (refl, (refl, (refl, (refl, (refl, tt))))),
-  ((λ l e. absurd cc), ((λ l e. absurd cc), ((λ l e. leads names whole 35 _ refl (inr (inr (inr (inl refl)))) l e), ((λ l e. absurd cc), ((λ l e. absurd cc), tt))))),
+  ((λ l e. absurd cc), ((λ l e. absurd cc), ((λ l e. leads names whole 35 _ refl (inr (inr (inl refl))) l e), ((λ l e. absurd cc), ((λ l e. absurd cc), tt))))),
 )
 
 prologue_sound : (names : Given) (whole : List CodeLine) (frame : ℕ) → Sound names whole (prologue_code frame)

@@ -5,6 +5,7 @@ pub mod Addressing
 pub mod Shifting
 pub mod Ordering
 pub mod Taking
+pub mod Services
 pub mod Selecting
 pub mod Pairing
 pub mod Low

@@ -18,7 +18,8 @@ use Rattle.im_select_relation.specs.Selected.{IsEntry}
 use Rattle.im_select_relation.specs.Symbolic.{Lines, IsSelected}
 use Rattle.im_live.specs.Reads.{IsLive}
 use Rattle.im_live.specs.Entries.{entries}
-use Rattle.im_rtlib.specs.Routines.{getchar_label, putchar_label, stack_label}
+use Rattle.im_rtlib.specs.Routines.{service_label, stack_label}
+use Rattle.im_serve.specs.declared.service.Service.{Service}
 use Rattle.im_select.specs.Given.{Given}
 use Rattle.im_select.specs.declared.distance.Distance.{Distance}
 use Rattle.im_select.specs.declared.distance.Distance.TheVariants.{Near, Far}
@@ -34,8 +35,7 @@ pub record Agrees (w : Lines) (given : Given) : Type 0 where
   pub entries : (i : ℕ) → i < given.functions → w.entry i ≡ entry_label i
   pub checkpoint : (m : ℕ) → IsEntry m → w.checkpoint m ≡ m
   pub full : w.full ≡ stack_label
-  pub puts : w.puts ≡ putchar_label
-  pub gets : w.gets ≡ getchar_label
+  pub serves : (service : Service) → w.serves service ≡ service_label service
 
 -- the functions that are called are there, the blocks that are gone to too
 pub record IsClosedBlock (given : Given) (block : Block) : Type 0 where
@@ -86,7 +86,7 @@ pub record HasLabel (lines : List CodeLine) (k l : ℕ) : Type 0 where
 -- the labels that a function's lines lead to: of the runtime, of functions, of its own blocks
 abbrev pub IsTarget : Given → ℕ → Type 0
 IsTarget given l =
-    IsEntry l ⊎ (l ≡ getchar_label) ⊎ (l ≡ putchar_label) ⊎ (l ≡ stack_label)
+    IsEntry l ⊎ ((service : Service) × (l ≡ service_label service)) ⊎ (l ≡ stack_label)
     ⊎ ((i : ℕ) × (i < given.functions) × (l ≡ entry_label i))
     ⊎ ((b : ℕ) × (b < length given.function.blocks.items) × (l ≡ given.first_block + b))
 
