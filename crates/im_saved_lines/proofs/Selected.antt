@@ -35,6 +35,7 @@ use Rattle.im_alloc_placed.specs.Placed.{IsPlacedLine, IsPlacedExit}
 use Rattle.im_alloc_relation.specs.Live.{place_uses, uses, sets}
 use Rattle.im_live.specs.Reads.{reads, reads_stack, writes, exit_live, lives_before}
 use Rattle.im_live.proofs.Paths.{lives_more}
+use Rattle.im_select.specs.Leads.{led}
 use Rattle.im_select.specs.declared.branching.Test.{Test}
 use Rattle.im_select.specs.declared.branching.Test.TheVariants.{Nonzero, Compares}
 use Rattle.im_select.specs.declared.distance.Distance.{Distance as Reach}
@@ -342,21 +343,21 @@ module _ (at : ℕ → ℕ → Bool) where
       by true = test_sound distance false t other behind b
       by false = sound_append at (test_code distance true t there) rest behind (test_sound distance true t there (scan at rest behind) a) (onward_sound (is_next next other) other behind b)
 
-module _ (functions : List Function) (statics first count frame : ℕ) (f : Function) (places : Name → ℕ) (m : ℕ → ℕ) (by : ℕ → ℕ → Bool) (distance : Reach) (live at : ℕ → ℕ → Bool) (above : 64 ≤ first) (kept : (b r : ℕ) → live b r ≡ true → by b r ≡ true) (low : IsLow at) (entries : HasEntries functions at) (blocks : HasBlocks live first count at) (homes : (b r : ℕ) → live b r ≡ true → (is_base r ≡ true) ⊎ IsHome r) where
-  block_live : (b r : ℕ) → b < count → IsUnsaved r → at (first + b) r ≡ true → live b r ≡ true
-  block_live b r there u e = elim (blocks.only b r there e) [ inl s ↦ absurd (unsaved_true r u s) | inr w ↦ w ]
+module _ (functions : List Function) (statics first count frame : ℕ) (f : Function) (places : Name → ℕ) (m : ℕ → ℕ) (by : ℕ → ℕ → Bool) (distance : Reach) (live at : ℕ → ℕ → Bool) (above : 64 ≤ first) (kept : (b r : ℕ) → live b r ≡ true → by b r ≡ true) (low : IsLow at) (entries : HasEntries functions at) (blocks : HasBlocks live first count at) (homes : (b r : ℕ) → live b r ≡ true → (is_base r ≡ true) ⊎ IsHome r) (leads : ℕ → ℕ) (inside : (b : ℕ) → b < count → leads b < count) (further : (b r : ℕ) → live (leads b) r ≡ true → live b r ≡ true) where
+  block_live : (b r : ℕ) → b < count → IsUnsaved r → at (first + leads b) r ≡ true → live b r ≡ true
+  block_live b r there u e = further b r (elim (blocks.only (leads b) r (inside b there) e) [ inl s ↦ absurd (unsaved_true r u s) | inr w ↦ w ])
 
   -- by the register of a branch, or by the test that it takes
-  led_to : (x y r : ℕ) → x < count → y < count → IsUnsaved r → (at (first + x) r ≡ true) ⊎ (at (first + y) r ≡ true) → (live x r || live y r) ≡ true
+  led_to : (x y r : ℕ) → x < count → y < count → IsUnsaved r → (at (first + leads x) r ≡ true) ⊎ (at (first + leads y) r ≡ true) → (live x r || live y r) ≡ true
   led_to x y r a b u (inl e) = or_left (live x r) (live y r) (block_live x r a u e)
   led_to x y r a b u (inr e) = or_right (live x r) (live y r) (block_live y r b u e)
 
-  exit_before : (next : Option ℕ) (bare : Bool) (exit : Exit) (behind : After) (r : ℕ) → Meets at next behind → IsPlacedExit exit → ExitThere count exit → IsUnsaved r → (scan at (exit_code distance next bare first frame None exit) behind).next r ≡ true → exit_live live exit r ≡ true
-  exit_before next bare (Jump b) behind r meets h there u w = block_live b r there u (onward_before at next (first + b) (not bare && is_next next (first + b)) behind r (λ e. (both (not bare) (is_next next (first + b)) e).1) meets u w)
-  exit_before next bare (Turn b) behind r meets h there u w = block_live b r there u (jump_before at 0 (first + b) behind r refl u w)
-  exit_before next bare (Branch on x y) behind r meets h there u w = cases (branch_before at distance next (Nonzero on) (first + x) (first + y) behind r meets u w)
+  exit_before : (next : Option ℕ) (bare : Bool) (exit : Exit) (behind : After) (r : ℕ) → Meets at next behind → IsPlacedExit exit → ExitThere count exit → IsUnsaved r → (scan at (exit_code distance next bare first frame None (led leads exit)) behind).next r ≡ true → exit_live live exit r ≡ true
+  exit_before next bare (Jump b) behind r meets h there u w = block_live b r there u (onward_before at next (first + leads b) (not bare && is_next next (first + leads b)) behind r (λ e. (both (not bare) (is_next next (first + leads b)) e).1) meets u w)
+  exit_before next bare (Turn b) behind r meets h there u w = block_live b r there u (jump_before at 0 (first + leads b) behind r refl u w)
+  exit_before next bare (Branch on x y) behind r meets h there u w = cases (branch_before at distance next (Nonzero on) (first + leads x) (first + leads y) behind r meets u w)
     where
-      cases : ((r ≡ on) ⊎ (r ≡ 0)) ⊎ (at (first + x) r ≡ true) ⊎ (at (first + y) r ≡ true) → exit_live live (Branch on x y) r ≡ true
+      cases : ((r ≡ on) ⊎ (r ≡ 0)) ⊎ (at (first + leads x) r ≡ true) ⊎ (at (first + leads y) r ≡ true) → exit_live live (Branch on x y) r ≡ true
       cases (inl (inl e)) = or_left (r == on) (live x r || live y r) (same_is r on e)
       cases (inl (inr e)) = absurd (unsaved_not r 0 u refl e)
       cases (inr e) = or_right (r == on) (live x r || live y r) (led_to x y r there.0 there.1 u e)
@@ -385,14 +386,14 @@ module _ (functions : List Function) (statics first count frame : ℕ) (f : Func
       cases false q = refl
 
   -- with the comparison that the exit takes
-  tail_before : (next : Option ℕ) (bare : Bool) (tail : List Line) (exit : Exit) (taken : Option Test) (behind : After) (r : ℕ) → IsTaken by tail exit taken → Meets at next behind → IsPlacedExit exit → ExitThere count exit → IsUnsaved r → (scan at (exit_code distance next bare first frame taken exit) behind).next r ≡ true → lives_before live tail exit r ≡ true
+  tail_before : (next : Option ℕ) (bare : Bool) (tail : List Line) (exit : Exit) (taken : Option Test) (behind : After) (r : ℕ) → IsTaken by tail exit taken → Meets at next behind → IsPlacedExit exit → ExitThere count exit → IsUnsaved r → (scan at (exit_code distance next bare first frame taken (led leads exit)) behind).next r ≡ true → lives_before live tail exit r ≡ true
   tail_before next bare tail exit taken behind r (Nothing exit') meets h there u w = exit_before next bare exit behind r meets h there u w
-  tail_before next bare tail exit taken behind r (Comparing to op kind left right x y a b) meets h there u w = cases (branch_before at distance next (Compares op kind left right) (first + x) (first + y) behind r meets u w)
+  tail_before next bare tail exit taken behind r (Comparing to op kind left right x y a b) meets h there u w = cases (branch_before at distance next (Compares op kind left right) (first + leads x) (first + leads y) behind r meets u w)
     where
       line : Line
       line = Compare to op kind left right
 
-      cases : ((r ≡ (both_ways (Compares op kind left right)).left) ⊎ (r ≡ (both_ways (Compares op kind left right)).right)) ⊎ (at (first + x) r ≡ true) ⊎ (at (first + y) r ≡ true) → lives_before live (line ∷ []) (Branch to x y) r ≡ true
+      cases : ((r ≡ (both_ways (Compares op kind left right)).left) ⊎ (r ≡ (both_ways (Compares op kind left right)).right)) ⊎ (at (first + leads x) r ≡ true) ⊎ (at (first + leads y) r ≡ true) → lives_before live (line ∷ []) (Branch to x y) r ≡ true
       cases (inl e) = or_left (reads line r) (not (r == to) && exit_live live (Branch to x y) r) (or_left (r == left || r == right) false (operand_is op kind left right r e))
       cases (inr e) =
           let lives = led_to x y r there.0 there.1 u e in
@@ -578,13 +579,13 @@ module _ (functions : List Function) (statics first count frame : ℕ) (f : Func
 
   -- a block
   abbrev pub body : Option ℕ → List Line → Exit → List CodeLine
-  body next lines exit = taking_code places m (behind_each by lines exit) distance next first frame (taken_test by lines exit) lines exit
+  body next lines exit = taking_code places m (behind_each by lines exit) distance next first frame (taken_test by lines exit) lines (led leads exit)
 
   abbrev own_code : List Line → Exit → List CodeLine
   own_code lines exit = lines_code places m (behind_each by lines exit) None 0 (own_lines (taken_test by lines exit) lines)
 
   abbrev ends : Option ℕ → List Line → Exit → List CodeLine
-  ends next lines exit = exit_code distance next (is_empty (own_code lines exit)) first frame (taken_test by lines exit) exit
+  ends next lines exit = exit_code distance next (is_empty (own_code lines exit)) first frame (taken_test by lines exit) (led leads exit)
 
   exit_meets : (next : Option ℕ) (lines : List Line) (exit : Exit) (behind : After) → Meets at next behind → IsPlacedExit exit → ExitThere count exit → (r : ℕ) → IsUnsaved r → (scan at (ends next lines exit) behind).next r ≡ true → lives_before live (parted by lines exit).tail exit r ≡ true
   exit_meets next lines exit behind meets e there r u w = tail_before next (is_empty (own_code lines exit)) (parted by lines exit).tail exit (taken_test by lines exit) behind r (parted by lines exit).is meets e there u w
@@ -606,4 +607,4 @@ module _ (functions : List Function) (statics first count frame : ℕ) (f : Func
       (lines_sound (behind_each by lines exit) 0 (own_lines (taken_test by lines exit) lines) k.tail exit (scan at (ends next lines exit) behind) (own_behind lines exit) (exit_meets next lines exit behind meets e there)
       (subst (All (IsPlacedLine statics f)) (sym k.whole) h) e (subst (All (LineThere functions)) (sym k.whole) t)
       (subst (λ (z : List Line). HoldsCalls live z exit) (sym k.whole) s) (subst (λ (z : List Line). SavesFrom live m 0 z exit) (sym k.whole) saves))
-      (exit_sound next (is_empty (own_code lines exit)) (taken_test by lines exit) exit behind)
+      (exit_sound next (is_empty (own_code lines exit)) (taken_test by lines exit) (led leads exit) behind)
