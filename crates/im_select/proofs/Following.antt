@@ -1,8 +1,8 @@
 -- Where blocks lead, and the blocks that lead to themselves.
-use Rattle.std.proofs.Common.{◌≡◌, ◌≢◌, ◌<◌, ◌≤◌, inl, inr, ℕ, zero, suc, ◌+◌, Bool, true, false, List, [], ◌∷◌, ◌++◌, Option, Some, None, length, get_or, drop, refl, sym, ap, ◌∙◌, subst, append_assoc, eq-eqb, arith}
-use Rattle.std.specs.Prelude.{◌==◌, ◌&&◌, not, nat_lt, if◌then◌else◌, slice_get}
+use Rattle.std.proofs.Common.{◌≡◌, ◌<◌, ◌≤◌, inl, inr, ℕ, zero, suc, ◌+◌, Bool, true, false, List, [], ◌∷◌, ◌++◌, Option, Some, None, length, refl, sym, ap, ◌∙◌, subst, length-append, eq-eqb, arith}
+use Rattle.std.specs.Prelude.{◌==◌, ◌&&◌, not, nat_lt, if◌then◌else◌, slice_get, slice_index}
+use Rattle.std.proofs.lemmas.Bool.{cases_lt}
 use Rattle.std.proofs.lemmas.Bool.Decides.{nat_tests}
-use Rattle.std.proofs.lemmas.List.{append-nil, drop_more, drop_all}
 use Rattle.im_block.specs.declared.code.Line.{Line}
 use Rattle.im_block.specs.declared.code.Exit.{Exit}
 use Rattle.im_block.specs.declared.code.Exit.TheVariants.{Jump, Turn, Branch, Return}
@@ -10,7 +10,7 @@ use Rattle.im_block.specs.declared.code.Block.{Block}
 use Rattle.im_block.specs.Shape.{exit_words}
 use Rattle.im_block.specs.Wellformed.{ExitThere, accesses_of_lines, accesses_of_blocks}
 use Rattle.im_alloc_placed.specs.Placed.{IsPlacedExit}
-use Rattle.im_select_relation.specs.Jumps.{jump_of, one_if, jumps_in, are_few}
+use Rattle.im_select_relation.specs.Jumps.{jump_of, are_few}
 use Rattle.im_select.specs.Leads.{onward_to, onward_of, go_on, lead_by, lead, led, kept, lead_as}
 use Rattle.im_select.specs.Selects.{causes_of_lines, causes_of_blocks, if_found, blocks_at}
 use Rattle.im_select.proofs.Ordering.{same_number, itself, Among, Distinct, cost_in}
@@ -65,11 +65,11 @@ lead_same blocks entry (suc n) zero b h k = by (onward_of entry b (slice_get blo
     by : (o : Option ℕ) → onward_of entry b (slice_get blocks b) ≡ o → go_on (lead_by blocks entry n) b o ≡ b
     by None e = refl
     by (Some c) e = let l = (leads_on blocks entry b c e).below in absurd (omega arith)
-lead_same blocks entry (suc n) (suc m) b h k = by (onward_of entry b (slice_get blocks b)) refl
+lead_same blocks entry (suc n) (suc m) b h k = by (λ c l r. lead_same blocks entry n m c l r) (onward_of entry b (slice_get blocks b)) refl
   where
-    by : (o : Option ℕ) → onward_of entry b (slice_get blocks b) ≡ o → go_on (lead_by blocks entry n) b o ≡ go_on (lead_by blocks entry m) b o
-    by None e = refl
-    by (Some c) e = let l = (leads_on blocks entry b c e).below in lead_same blocks entry n m c (omega arith) (omega arith)
+    by : ((c : ℕ) → c ≤ n → c ≤ m → lead_by blocks entry n c ≡ lead_by blocks entry m c) → (o : Option ℕ) → onward_of entry b (slice_get blocks b) ≡ o → go_on (lead_by blocks entry n) b o ≡ go_on (lead_by blocks entry m) b o
+    by same None e = refl
+    by same (Some c) e = let l = (leads_on blocks entry b c e).below in same c (omega arith) (omega arith)
 
 -- a block leads to itself, or where the block leads to which it leads on
 pub data LeadOf (blocks : List Block) (entry b : ℕ) : Type 0 where
@@ -108,17 +108,17 @@ lead_of blocks entry b = by (are_few blocks) (onward_of entry b (slice_get block
     by true None e (Last s) = Stays s
     by true (Some c) e (Onward c' on s) = Goes c e on s
 
+lead_up_to : (blocks : List Block) (entry : ℕ) (Q : ℕ → ℕ → Type 0) → ((b : ℕ) → Q b b) → ((b c d : ℕ) → LeadsOn blocks entry b c → Q c d → Q b d) → (n b : ℕ) → b < n → Q b (lead blocks entry b)
+lead_up_to blocks entry Q same more zero b h = absurd (omega arith)
+lead_up_to blocks entry Q same more (suc n) b h = by (λ c l. lead_up_to blocks entry Q same more n c l) (lead_of blocks entry b)
+  where
+    by : ((c : ℕ) → c < n → Q c (lead blocks entry c)) → LeadOf blocks entry b → Q b (lead blocks entry b)
+    by below (Stays s) = subst (Q b) (sym s) (same b)
+    by below (Goes c few on s) = let l = on.below in subst (Q b) (sym s) (more b c (lead blocks entry c) on (below c (omega arith)))
+
 -- what holds of a block and itself, and of one that leads on where it does of the next, holds of each block and where it leads
 pub lead_path : (blocks : List Block) (entry : ℕ) (Q : ℕ → ℕ → Type 0) → ((b : ℕ) → Q b b) → ((b c d : ℕ) → LeadsOn blocks entry b c → Q c d → Q b d) → (b : ℕ) → Q b (lead blocks entry b)
-lead_path blocks entry Q same more b = up_to (suc b) b (omega arith)
-  where
-    up_to : (n b : ℕ) → b < n → Q b (lead blocks entry b)
-    up_to zero b h = absurd (omega arith)
-    up_to (suc n) b h = by (lead_of blocks entry b)
-      where
-        by : LeadOf blocks entry b → Q b (lead blocks entry b)
-        by (Stays s) = subst (Q b) (sym s) (same b)
-        by (Goes c few on s) = let l = on.below in subst (Q b) (sym s) (more b c (lead blocks entry c) on (up_to n c (omega arith)))
+lead_path blocks entry Q same more b = lead_up_to blocks entry Q same more (suc b) b (omega arith)
 
 pub lead_low : (blocks : List Block) (entry b : ℕ) → lead blocks entry b ≤ b
 lead_low blocks entry b = lead_path blocks entry (λ b d. d ≤ b) (λ b. omega arith) (λ b c d on h. (let l = on.below in omega arith)) b
@@ -126,16 +126,16 @@ lead_low blocks entry b = lead_path blocks entry (λ b d. d ≤ b) (λ b. omega 
 pub lead_below : (blocks : List Block) (entry b n : ℕ) → b < n → lead blocks entry b < n
 lead_below blocks entry b n h = let l = lead_low blocks entry b in omega arith
 
-pub lead_lead : (blocks : List Block) (entry b : ℕ) → lead blocks entry (lead blocks entry b) ≡ lead blocks entry b
-lead_lead blocks entry b = up_to (suc b) b (omega arith)
+lead_twice : (blocks : List Block) (entry n b : ℕ) → b < n → lead blocks entry (lead blocks entry b) ≡ lead blocks entry b
+lead_twice blocks entry zero b h = absurd (omega arith)
+lead_twice blocks entry (suc n) b h = by (λ c l. lead_twice blocks entry n c l) (lead_of blocks entry b)
   where
-    up_to : (n b : ℕ) → b < n → lead blocks entry (lead blocks entry b) ≡ lead blocks entry b
-    up_to zero b h = absurd (omega arith)
-    up_to (suc n) b h = by (lead_of blocks entry b)
-      where
-        by : LeadOf blocks entry b → lead blocks entry (lead blocks entry b) ≡ lead blocks entry b
-        by (Stays s) = ap (lead blocks entry) s
-        by (Goes c few on s) = let l = on.below in ap (lead blocks entry) s ∙ up_to n c (omega arith) ∙ sym s
+    by : ((c : ℕ) → c < n → lead blocks entry (lead blocks entry c) ≡ lead blocks entry c) → LeadOf blocks entry b → lead blocks entry (lead blocks entry b) ≡ lead blocks entry b
+    by below (Stays s) = ap (lead blocks entry) s
+    by below (Goes c few on s) = let l = on.below in ap (lead blocks entry) s ∙ below c (omega arith) ∙ sym s
+
+pub lead_lead : (blocks : List Block) (entry b : ℕ) → lead blocks entry (lead blocks entry b) ≡ lead blocks entry b
+lead_lead blocks entry b = lead_twice blocks entry (suc b) b (omega arith)
 
 pub lead_entry : (blocks : List Block) (entry : ℕ) → lead blocks entry entry ≡ entry
 lead_entry blocks entry = by (lead_of blocks entry entry)
@@ -154,12 +154,6 @@ lead_away blocks entry b e = by (lead_of blocks entry b)
 
 -- ---- as they are found from the lowest on
 
-pub jumps_more : (blocks : List Block) (k : ℕ) (d : Block) → k < length blocks → jumps_in (drop k blocks) ≡ one_if (jump_of (get_or blocks k d).lines.items (get_or blocks k d).exit) + jumps_in (drop (k + 1) blocks)
-jumps_more blocks k d h = ap jumps_in (drop_more blocks k d h)
-
-pub jumps_done : (blocks : List Block) (k : ℕ) → length blocks ≤ k → jumps_in (drop k blocks) ≡ 0
-jumps_done blocks k h = ap jumps_in (drop_all k blocks h)
-
 pub lead_known : (blocks : List Block) (entry b : ℕ) (block : Block) (leads : ℕ → ℕ) → slice_get blocks b ≡ Some block → ((c : ℕ) → c < b → leads c ≡ lead blocks entry c) → lead_as (are_few blocks) leads entry b block ≡ lead blocks entry b
 lead_known blocks entry b block leads e h =
     by (are_few blocks) (onward_to entry b (jump_of block.lines.items block.exit)) (subst (LeadBy blocks entry b (are_few blocks)) (ap (onward_of entry b) e) (lead_case blocks entry b))
@@ -169,24 +163,34 @@ lead_known blocks entry b block leads e h =
     by true None (Last s) = sym s
     by true (Some c) (Onward c' on s) = h c on.below ∙ sym s
 
-pub kept_more : (f : ℕ → ℕ) (order : List ℕ) (k d : ℕ) → k < length order → kept f (drop k order) ≡ (if f (get_or order k d) == get_or order k d then get_or order k d ∷ kept f (drop (k + 1) order) else kept f (drop (k + 1) order))
-kept_more f order k d h = ap (kept f) (drop_more order k d h)
+index_left : (xs : List ℕ) (y b : ℕ) → b < length xs → slice_index (xs ++ y ∷ []) b ≡ slice_index xs b
+index_left [] y b h = absurd (omega arith)
+index_left (x ∷ xs) y zero h = refl
+index_left (x ∷ xs) y (suc b) h = index_left xs y b (omega arith)
 
-pub kept_put : (f : ℕ → ℕ) (order those new whole : List ℕ) (k d : ℕ) → k < length order → f (get_or order k d) ≡ get_or order k d → new ≡ those ++ get_or order k d ∷ [] → those ++ kept f (drop k order) ≡ whole → new ++ kept f (drop (k + 1) order) ≡ whole
-kept_put f order those new whole k d h e n a =
-    let x : ℕ = get_or order k d in
-    let rest : List ℕ = kept f (drop (k + 1) order) in
-    ap (λ z. z ++ rest) n ∙ append_assoc those (x ∷ []) rest ∙ ap (λ z. those ++ z) (sym (kept_more f order k d h ∙ ap (λ t. if t then x ∷ rest else rest) (eq-eqb (f x) x e))) ∙ a
+index_last : (xs : List ℕ) (y : ℕ) → slice_index (xs ++ y ∷ []) (length xs) ≡ y
+index_last [] y = refl
+index_last (x ∷ xs) y = index_last xs y
 
-pub kept_left : (f : ℕ → ℕ) (order those whole : List ℕ) (k d : ℕ) → k < length order → f (get_or order k d) ≢ get_or order k d → those ++ kept f (drop k order) ≡ whole → those ++ kept f (drop (k + 1) order) ≡ whole
-kept_left f order those whole k d h e a =
-    let x : ℕ = get_or order k d in
-    let rest : List ℕ = kept f (drop (k + 1) order) in
-    let other : (f x == x) ≡ false = grind (arith, nat_tests) in
-    ap (λ z. those ++ z) (sym (kept_more f order k d h ∙ ap (λ t. if t then x ∷ rest else rest) other)) ∙ a
+-- so far each number is where the block leads
+abbrev pub LeadBelow : List Block → ℕ → List ℕ → ℕ → Type 0
+LeadBelow blocks entry leads n = (length leads ≡ n) × ((b : ℕ) → b < n → slice_index leads b ≡ lead blocks entry b)
 
-pub kept_done : (f : ℕ → ℕ) (order those whole : List ℕ) (k : ℕ) → length order ≤ k → those ++ kept f (drop k order) ≡ whole → those ≡ whole
-kept_done f order those whole k h a = sym (append-nil those) ∙ ap (λ z. those ++ kept f z) (sym (drop_all k order h)) ∙ a
+pub leads_more : (blocks : List Block) (entry : ℕ) (leads new : List ℕ) (n x : ℕ) (block : Block) → slice_get blocks n ≡ Some block → LeadBelow blocks entry leads n → new ≡ leads ++ x ∷ [] → x ≡ lead_as (are_few blocks) (slice_index leads) entry n block → LeadBelow blocks entry new (n + 1)
+leads_more blocks entry leads new n x block e h is v =
+    let count = h.0 in
+    let more = length-append leads (x ∷ []) in
+    let same = ap (length {A = ℕ}) is in
+    let last : x ≡ lead blocks entry n = v ∙ lead_known blocks entry n block (slice_index leads) e (λ c l. h.1 c l) in (
+      omega arith,
+      (λ b l. elim (cases_lt b n) [
+        | inl a ↦ ap (λ z. slice_index z b) is ∙ index_left leads x b (omega arith) ∙ h.1 b a
+        | inr a ↦
+            (let here : b ≡ length leads = omega arith in
+            let there : length leads ≡ n = count in
+            ap (λ z. slice_index z b) is ∙ ap (slice_index (leads ++ x ∷ [])) here ∙ index_last leads x ∙ last ∙ ap (lead blocks entry) (sym (here ∙ there)))
+      ]),
+    )
 
 -- ---- exits
 
@@ -218,41 +222,41 @@ led_words leads (Return from) = refl
 
 pub kept_are : (f : ℕ → ℕ) (order : List ℕ) (b : ℕ) → Among (kept f order) b → Among order b × (f b ≡ b)
 kept_are f [] b a = absurd a
-kept_are f (x ∷ rest) b = by (f x == x) refl
+kept_are f (x ∷ rest) b a = by (λ m. kept_are f rest b m) (f x == x) refl a
   where
-    by : (t : Bool) → (f x == x) ≡ t → Among (if t then x ∷ kept f rest else kept f rest) b → Among (x ∷ rest) b × (f b ≡ b)
-    by true e (inl s) = (inl s, ap f (sym s) ∙ same_number (f x) x e ∙ s)
-    by true e (inr m) = let r = kept_are f rest b m in (inr r.0, r.1)
-    by false e m = let r = kept_are f rest b m in (inr r.0, r.1)
+    by : (Among (kept f rest) b → Among rest b × (f b ≡ b)) → (t : Bool) → (f x == x) ≡ t → Among (if t then x ∷ kept f rest else kept f rest) b → Among (x ∷ rest) b × (f b ≡ b)
+    by more true e (inl s) = (inl s, ap f (sym s) ∙ same_number (f x) x e ∙ s)
+    by more true e (inr m) = let r = more m in (inr r.0, r.1)
+    by more false e m = let r = more m in (inr r.0, r.1)
 
 pub kept_all : (f : ℕ → ℕ) (order : List ℕ) (b : ℕ) → Among order b → f b ≡ b → Among (kept f order) b
 kept_all f [] b a s = absurd a
-kept_all f (x ∷ rest) b a s = by (f x == x) refl a
+kept_all f (x ∷ rest) b a s = by (λ m. kept_all f rest b m s) (f x == x) refl a
   where
-    by : (t : Bool) → (f x == x) ≡ t → Among (x ∷ rest) b → Among (if t then x ∷ kept f rest else kept f rest) b
-    by true e (inl q) = inl q
-    by true e (inr m) = inr (kept_all f rest b m s)
-    by false e (inl q) = let t : (f x == x) ≡ true = eq-eqb (f x) x (ap f q ∙ s ∙ sym q) in absurd cc
-    by false e (inr m) = kept_all f rest b m s
+    by : (Among rest b → Among (kept f rest) b) → (t : Bool) → (f x == x) ≡ t → Among (x ∷ rest) b → Among (if t then x ∷ kept f rest else kept f rest) b
+    by more true e (inl q) = inl q
+    by more true e (inr m) = inr (more m)
+    by more false e (inl q) = let t : (f x == x) ≡ true = eq-eqb (f x) x (ap f q ∙ s ∙ sym q) in absurd cc
+    by more false e (inr m) = more m
 
 pub kept_distinct : (f : ℕ → ℕ) (order : List ℕ) → Distinct order → Distinct (kept f order)
 kept_distinct f [] d = tt
-kept_distinct f (x ∷ rest) d = by (f x == x)
+kept_distinct f (x ∷ rest) d = by (kept_distinct f rest d.1) (f x == x)
   where
-    by : (t : Bool) → Distinct (if t then x ∷ kept f rest else kept f rest)
-    by true = ((λ b a. d.0 b (kept_are f rest b a).0), kept_distinct f rest d.1)
-    by false = kept_distinct f rest d.1
+    by : Distinct (kept f rest) → (t : Bool) → Distinct (if t then x ∷ kept f rest else kept f rest)
+    by more true = ((λ b a. d.0 b (kept_are f rest b a).0), more)
+    by more false = more
 
 pub kept_first : (f : ℕ → ℕ) (x : ℕ) (rest : List ℕ) → f x ≡ x → kept f (x ∷ rest) ≡ x ∷ kept f rest
 kept_first f x rest e = ap (λ t. if t then x ∷ kept f rest else kept f rest) (eq-eqb (f x) x e)
 
 pub kept_cost : (blocks : List Block) (f : ℕ → ℕ) (order : List ℕ) → cost_in blocks (kept f order) ≤ cost_in blocks order
 kept_cost blocks f [] = omega arith
-kept_cost blocks f (x ∷ rest) = by (f x == x)
+kept_cost blocks f (x ∷ rest) = by (kept_cost blocks f rest) (f x == x)
   where
-    by : (t : Bool) → cost_in blocks (if t then x ∷ kept f rest else kept f rest) ≤ cost_in blocks (x ∷ rest)
-    by true = let h = kept_cost blocks f rest in omega arith
-    by false = let h = kept_cost blocks f rest in omega arith
+    by : cost_in blocks (kept f rest) ≤ cost_in blocks rest → (t : Bool) → cost_in blocks (if t then x ∷ kept f rest else kept f rest) ≤ cost_in blocks (x ∷ rest)
+    by h true = omega arith
+    by h false = omega arith
 
 -- as a list of numbers has them
 pub kept_same : (f g : ℕ → ℕ) (order : List ℕ) → ((b : ℕ) → Among order b → f b ≡ g b) → kept f order ≡ kept g order
@@ -268,30 +272,30 @@ module _ (blocks : List Block) (entry : ℕ) where
 
   pub kept_accesses : (order : List ℕ) → accesses_of_blocks (blocks_at blocks (those order)) ≡ accesses_of_blocks (blocks_at blocks order)
   kept_accesses [] = refl
-  kept_accesses (x ∷ rest) = by (lead blocks entry x == x) refl
+  kept_accesses (x ∷ rest) = by (kept_accesses rest) (lead blocks entry x == x) refl
     where
-      later : (o : Option Block) → accesses_of_blocks (if_found o (blocks_at blocks (those rest))) ≡ accesses_of_blocks (if_found o (blocks_at blocks rest))
-      later None = kept_accesses rest
-      later (Some block) = ap (λ z. accesses_of_lines block.lines.items ++ z) (kept_accesses rest)
+      later : accesses_of_blocks (blocks_at blocks (those rest)) ≡ accesses_of_blocks (blocks_at blocks rest) → (o : Option Block) → accesses_of_blocks (if_found o (blocks_at blocks (those rest))) ≡ accesses_of_blocks (if_found o (blocks_at blocks rest))
+      later more None = more
+      later more (Some block) = ap (λ z. accesses_of_lines block.lines.items ++ z) more
 
       gone : (c : ℕ) → LeadsOn blocks entry x c → accesses_of_blocks (if_found (slice_get blocks x) (blocks_at blocks rest)) ≡ accesses_of_blocks (blocks_at blocks rest)
       gone c on = ap (λ o. accesses_of_blocks (if_found o (blocks_at blocks rest))) on.there ∙ ap (λ z. accesses_of_lines z ++ accesses_of_blocks (blocks_at blocks rest)) on.lines
 
-      by : (t : Bool) → (lead blocks entry x == x) ≡ t → accesses_of_blocks (blocks_at blocks (if t then x ∷ those rest else those rest)) ≡ accesses_of_blocks (blocks_at blocks (x ∷ rest))
-      by true e = later (slice_get blocks x)
-      by false e = let on = (lead_away blocks entry x e).1 in kept_accesses rest ∙ sym (gone on.0 on.1)
+      by : accesses_of_blocks (blocks_at blocks (those rest)) ≡ accesses_of_blocks (blocks_at blocks rest) → (t : Bool) → (lead blocks entry x == x) ≡ t → accesses_of_blocks (blocks_at blocks (if t then x ∷ those rest else those rest)) ≡ accesses_of_blocks (blocks_at blocks (x ∷ rest))
+      by more true e = later more (slice_get blocks x)
+      by more false e = let on = (lead_away blocks entry x e).1 in more ∙ sym (gone on.0 on.1)
 
   pub kept_causes : (order : List ℕ) → causes_of_blocks (blocks_at blocks (those order)) ≡ causes_of_blocks (blocks_at blocks order)
   kept_causes [] = refl
-  kept_causes (x ∷ rest) = by (lead blocks entry x == x) refl
+  kept_causes (x ∷ rest) = by (kept_causes rest) (lead blocks entry x == x) refl
     where
-      later : (o : Option Block) → causes_of_blocks (if_found o (blocks_at blocks (those rest))) ≡ causes_of_blocks (if_found o (blocks_at blocks rest))
-      later None = kept_causes rest
-      later (Some block) = ap (λ z. causes_of_lines block.lines.items ++ z) (kept_causes rest)
+      later : causes_of_blocks (blocks_at blocks (those rest)) ≡ causes_of_blocks (blocks_at blocks rest) → (o : Option Block) → causes_of_blocks (if_found o (blocks_at blocks (those rest))) ≡ causes_of_blocks (if_found o (blocks_at blocks rest))
+      later more None = more
+      later more (Some block) = ap (λ z. causes_of_lines block.lines.items ++ z) more
 
       gone : (c : ℕ) → LeadsOn blocks entry x c → causes_of_blocks (if_found (slice_get blocks x) (blocks_at blocks rest)) ≡ causes_of_blocks (blocks_at blocks rest)
       gone c on = ap (λ o. causes_of_blocks (if_found o (blocks_at blocks rest))) on.there ∙ ap (λ z. causes_of_lines z ++ causes_of_blocks (blocks_at blocks rest)) on.lines
 
-      by : (t : Bool) → (lead blocks entry x == x) ≡ t → causes_of_blocks (blocks_at blocks (if t then x ∷ those rest else those rest)) ≡ causes_of_blocks (blocks_at blocks (x ∷ rest))
-      by true e = later (slice_get blocks x)
-      by false e = let on = (lead_away blocks entry x e).1 in kept_causes rest ∙ sym (gone on.0 on.1)
+      by : causes_of_blocks (blocks_at blocks (those rest)) ≡ causes_of_blocks (blocks_at blocks rest) → (t : Bool) → (lead blocks entry x == x) ≡ t → causes_of_blocks (blocks_at blocks (if t then x ∷ those rest else those rest)) ≡ causes_of_blocks (blocks_at blocks (x ∷ rest))
+      by more true e = later more (slice_get blocks x)
+      by more false e = let on = (lead_away blocks entry x e).1 in more ∙ sym (gone on.0 on.1)

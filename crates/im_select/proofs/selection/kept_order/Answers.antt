@@ -1,4 +1,4 @@
-use Rattle.std.proofs.Common.{◌≡◌, ℕ, List, ◌<◌, length, sym, ap, ◌∙◌, subst}
+use Rattle.std.proofs.Common.{◌≡◌, ℕ, List, ◌<◌, length, sym, ap, ◌∙◌, subst, arith}
 use Rattle.std.specs.Prelude.{All, slice_index}
 use Rattle.im_select.specs.Leads.{lead, kept}
 use Rattle.im_select.specs.Emitted.{laid_order}
@@ -11,9 +11,10 @@ kept-requires c =
     let function = c.args.function.now in
     let count : ℕ = length function.blocks.items in
     let order : List ℕ = laid_order function.entry count in
+    let n : c.len.result ≡ count = (let e = c.len.ensures in omega arith) in
     let same : length c.args.leads.now ≡ count = c.requires.leads.count in
     subst (λ (z : ℕ). All (λ b. b < z) c.deref.result.now) (sym same)
-    (subst (λ (z : List ℕ). All (λ b. b < count) z) (sym (c.deref.ensures.value ∙ c.in_ok-order.ensures))
+    (subst (λ (z : List ℕ). All (λ b. b < count) z) (sym (c.deref.ensures.value ∙ c.in_ok-order.ensures ∙ ap (laid_order function.entry) n))
     (all_among (λ b. b < count) order (order_below function.entry count c.requires.entry)))
 
 pub returns : goal.returns
@@ -22,6 +23,7 @@ returns c =
     let blocks = function.blocks.items in
     let count : ℕ = length blocks in
     let order : List ℕ = laid_order function.entry count in
+    let n : c.len.result ≡ count = (let e = c.len.ensures in omega arith) in
     c.in_ok-those.ensures
-    ∙ ap (kept (slice_index c.args.leads.now)) (c.deref.ensures.value ∙ c.in_ok-order.ensures)
+    ∙ ap (kept (slice_index c.args.leads.now)) (c.deref.ensures.value ∙ c.in_ok-order.ensures ∙ ap (laid_order function.entry) n)
     ∙ kept_same (slice_index c.args.leads.now) (lead blocks function.entry) order (λ b a. c.requires.leads.each b (order_below function.entry count c.requires.entry b a))
