@@ -1,5 +1,5 @@
 -- What is counted and told of a case.
-use Rattle.std.specs.Prelude.{ℕ, ◌+◌, ◌-◌, ◌^◌, Bool, true, false, List, ◌++◌, codes, bytes_eq, min, if◌then◌else◌}
+use Rattle.std.specs.Prelude.{◌≡◌, ℕ, ◌+◌, ◌-◌, ◌^◌, Bool, true, false, List, ◌++◌, codes, bytes_eq, min, if◌then◌else◌}
 use Rattle.im_trial.specs.declared.case.Case.{Case}
 use Rattle.im_trial.specs.declared.row.Row.{Row}
 use Rattle.im_trial.specs.declared.tally.Tally.{Tally}
@@ -16,6 +16,10 @@ one_more count = min (count + 1) (2 ^ 32 - 1)
 abbrev pub counted : Bool → Tally → Tally
 counted true tally = record { passed = one_more tally.passed; failed = tally.failed }
 counted false tally = record { passed = tally.passed; failed = one_more tally.failed }
+
+-- one case more is counted, as one that passed or as one that failed
+abbrev pub IsCounted : Tally → Tally → Type 0
+IsCounted before after = (passed : Bool) × (after ≡ counted passed before)
 
 -- the kind, the name, and where that isn't what the row wants, both texts
 abbrev pub told_of : Row → Case → List ℕ

@@ -1,3 +1,7 @@
+ghost use Rattle.std.specs.Prelude.{◌≡◌, true, false, OnOk};
+ghost use Rattle.im_trial.specs.Judging.{IsCounted};
+ghost use Rattle.im_trial.specs.Texts.{has_text};
+
 use crate::case::Case;
 use crate::row::Row;
 use crate::stop::Stop;
@@ -19,7 +23,11 @@ fn run_row<K: Kinds>(
     texts: &mut Texts,
     tally: &mut Tally,
     row: &Row<'_>,
-) -> Result<(), Stop> {
+) -> Result<(), Stop>
+    ensures text { has_text row.now ≡ true → tally.new ≡ tally.old }
+    ensures case { has_text row.now ≡ false
+        → OnOk result ((texts.new ≡ texts.old) × IsCounted tally.old tally.new) }
+{
     if texts.take(rt, row)? {
         return Ok(());
     }

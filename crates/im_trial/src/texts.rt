@@ -1,12 +1,15 @@
-ghost use Rattle.std.specs.Prelude.{◌≡◌, [], ◌∷◌, ◌++◌, MatchResult, OnOk, Some};
+ghost use Rattle.std.specs.Prelude.{◌≡◌, ℕ, List, [], ◌++◌, true, false, is_some, IfErr, IfOk, MatchResult, OnErr, OnOk, Some};
+ghost use Rattle.std.specs.List.{flat_map, repeat};
+ghost use Rattle.im_num.specs.Bytes.{word_bytes};
 ghost use Rattle.im_trial.specs.Finding.{Refuses};
-ghost use Rattle.im_trial.specs.Texts.{text_named, written_in};
+ghost use Rattle.im_trial.specs.Rows.{field_of};
+ghost use Rattle.im_trial.specs.Texts.{has_text, is_file, repeat_text, text_named, text_of as text_written, texts_behind, with_text, words_of, words_text, writing_by, writing_of, written_in};
 
 use crate::escapes::unescaped;
 use crate::fields::small_of;
 use crate::row::Row;
 use crate::stop::Stop;
-use std::alloc::Global;
+use std::alloc::{AllocError, Global};
 use std::fs;
 use std::marker::Model;
 
@@ -15,6 +18,14 @@ use std::marker::Model;
 struct Text {
     name: String,
     bytes: Vec<u8>,
+}
+
+/// How a row writes a text: its bytes, its words, or what stands in it so many times.
+#[derive(Clone, Copy)]
+enum Writing {
+    Bytes,
+    Words,
+    Repeat,
 }
 
 /// The texts of the tables.
@@ -67,45 +78,145 @@ impl Texts {
         }
     }
 
-    fn push(&mut self, alloc: Global, name: &str, bytes: Vec<u8>) -> Result<(), Stop> {
+    // Puts a text of that name behind the others.
+    fn push(&mut self, alloc: Global, name: &str, bytes: Vec<u8>) -> Result<(), Stop>
+        ensures put { OnOk result (self.new ≡ with_text self.old name.now bytes.items) }
+        ensures same { OnErr result (self.new ≡ self.old) }
+        ensures stop { IfErr result (λ stop. stop ≡ Stop.Memory) }
+    {
         let name = String::from_str(alloc, name)?;
         self.all.push(Text { name, bytes })?;
         Ok(())
     }
 
+    // Takes the text that a row writes, and tells whether it writes one.
+    fn take_written(&mut self, alloc: Global, row: &Row<'_>) -> Result<bool, Stop>
+        ensures taken { IfOk result (λ taken. taken ≡ is_some (writing_of row.now)) }
+        ensures texts { let texts = texts_behind self.old row.now in
+            MatchResult result (λ _. texts ≡ Some self.new) (Refuses texts) }
+        ensures same { OnErr result (self.new ≡ self.old) }
+    {
+        match writing_of(row.kind()) {
+            None => Ok(false),
+            Some(writing) => {
+                let bytes = text_of(alloc, self, row, writing)?;
+                self.push(alloc, row.name(), bytes)?;
+                Ok(true)
+            }
+        }
+    }
+
     /// Takes the text of a row, and tells whether the row is of a kind that has one: `text NAME
     /// BYTES`, `file NAME`, which is a file beside the table, `words NAME WORDS`, `repeat NAME
     /// FRONT LINK COUNT END`.
-    pub fn take(&mut self, rt: &HostRuntime, row: &Row<'_>) -> Result<bool, Stop> {
-        let alloc = rt.alloc();
-        let bytes = match row.kind() {
-            "text" => row.bytes(alloc, self, 2)?,
-            "file" => fs::read(rt, row.name())?,
-            "words" => bytes_of_words(alloc, row)?,
-            "repeat" => repeated(alloc, self, row)?,
-            _ => return Ok(false),
-        };
-        self.push(alloc, row.name(), bytes)?;
-        Ok(true)
+    pub fn take(&mut self, rt: &HostRuntime, row: &Row<'_>) -> Result<bool, Stop>
+        ensures taken { IfOk result (λ taken. taken ≡ has_text row.now) }
+        ensures file { is_file row.now ≡ true → OnOk result ((bytes : List ℕ)
+            × (self.new ≡ with_text self.old (field_of row.now 1) bytes)) }
+        ensures written { is_file row.now ≡ false → (let texts = texts_behind self.old row.now in
+            MatchResult result (λ _. texts ≡ Some self.new) (Refuses texts)) }
+        ensures same { OnErr result (self.new ≡ self.old) }
+    {
+        if row.kind() == "file" {
+            let bytes = file_of(rt, row.name())?;
+            self.push(rt.alloc(), row.name(), bytes)?;
+            return Ok(true);
+        }
+        self.take_written(rt.alloc(), row)
     }
 }
 
-/// Words, each with its lowest byte first.
-fn bytes_of_words(alloc: Global, row: &Row<'_>) -> Result<Vec<u8>, Stop> {
+// How a row of that kind writes a text.
+fn writing_of(kind: &str) -> Option<Writing>
+    ensures { result ≡ writing_by kind.now }
+{
+    if kind == "text" {
+        Some(Writing::Bytes)
+    } else if kind == "words" {
+        Some(Writing::Words)
+    } else if kind == "repeat" {
+        Some(Writing::Repeat)
+    } else {
+        None
+    }
+}
+
+// The bytes of the text that a row writes so.
+fn text_of(alloc: Global, texts: &Texts, row: &Row<'_>, writing: Writing) -> Result<Vec<u8>, Stop>
+    ensures { let text = text_written texts.now row.now writing in
+        MatchResult result (λ bytes. text ≡ Some bytes.items) (Refuses text) }
+{
+    match writing {
+        Writing::Bytes => row.bytes(alloc, texts, 2),
+        Writing::Words => bytes_of_words(alloc, row),
+        Writing::Repeat => repeated(alloc, texts, row),
+    }
+}
+
+fn put_word(bytes: &mut Vec<u8>, word: u32) -> Result<(), AllocError>
+    ensures { OnOk result (bytes.new.items ≡ bytes.old.items ++ word_bytes word) }
+{
+    bytes.extend_from_slice(&word.to_le_bytes())
+}
+
+fn put_words(bytes: &mut Vec<u8>, words: &[u32]) -> Result<(), AllocError>
+    ensures { OnOk result (bytes.new.items ≡ bytes.old.items ++ flat_map word_bytes words.now) }
+{
+    for word in words {
+        put_word(bytes, *word)?;
+    }
+    Ok(())
+}
+
+// Words, each with its lowest byte first.
+fn bytes_of_words(alloc: Global, row: &Row<'_>) -> Result<Vec<u8>, Stop>
+    ensures { let text = words_text (words_of row.now 2) in
+        MatchResult result (λ bytes. text ≡ Some bytes.items) (Refuses text) }
+{
+    let words = row.words(alloc, 2)?;
     let mut bytes = Vec::new(alloc);
-    for word in &row.words(alloc, 2)? {
-        bytes.extend_from_slice(&word.to_le_bytes())?;
-    }
+    put_words(&mut bytes, &words)?;
     Ok(bytes)
 }
 
-/// A front, a link that stands so many times, and an end.
-fn repeated(alloc: Global, texts: &Texts, row: &Row<'_>) -> Result<Vec<u8>, Stop> {
-    let mut bytes = row.bytes(alloc, texts, 2)?;
-    let link = row.bytes(alloc, texts, 3)?;
-    for _ in 0..small_of(row.field(4))? {
-        bytes.extend_from_slice(&link)?;
-    }
-    bytes.extend_from_slice(&row.bytes(alloc, texts, 5)?)?;
+fn times(alloc: Global, link: &[u8], count: u32) -> Result<Vec<u8>, AllocError>
+    ensures { IfOk result (λ bytes. bytes.items ≡ repeat count link.now) }
+{
+    link.repeat(alloc, count as usize)
+}
+
+// A front, a link that stands so many times, and an end.
+fn joined(
+    alloc: Global,
+    front: &[u8],
+    link: &[u8],
+    count: u32,
+    end: &[u8],
+) -> Result<Vec<u8>, AllocError>
+    ensures { IfOk result (λ bytes. bytes.items
+        ≡ front.now ++ (repeat count link.now ++ end.now)) }
+{
+    let mut bytes = Vec::from_slice(alloc, front)?;
+    bytes.extend_from_slice(&times(alloc, link, count)?)?;
+    bytes.extend_from_slice(end)?;
     Ok(bytes)
+}
+
+// The text of a row by its front, its link, how often the link stands, and its end.
+fn repeated(alloc: Global, texts: &Texts, row: &Row<'_>) -> Result<Vec<u8>, Stop>
+    ensures { let text = repeat_text texts.now row.now in
+        MatchResult result (λ bytes. text ≡ Some bytes.items) (Refuses text) }
+{
+    let front = row.bytes(alloc, texts, 2)?;
+    let link = row.bytes(alloc, texts, 3)?;
+    let count = small_of(row.field(4))?;
+    let end = row.bytes(alloc, texts, 5)?;
+    Ok(joined(alloc, &front, &link, count, &end)?)
+}
+
+// The bytes of a file.
+fn file_of(rt: &HostRuntime, name: &str) -> Result<Vec<u8>, Stop>
+    ensures { IfErr result (λ stop. stop ≡ Stop.Files) }
+{
+    Ok(fs::read(rt, name)?)
 }
