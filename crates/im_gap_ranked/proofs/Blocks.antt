@@ -17,9 +17,9 @@ use Rattle.im_num.specs.declared.values.Cause.{Cause}
 use Rattle.im_rv.specs.declared.instr.Op.TheVariants.{Jalr, Lw, Sw, Addi, Add as AddOp}
 use Rattle.im_rv.specs.Lines.{CodeLine, plain_line}
 use Rattle.im_rv_reach.specs.Instructions.{with_immediate, on_registers, storing}
-use Rattle.im_rtlib.specs.Routines.{getchar_label, putchar_label, stack_label}
+use Rattle.im_rtlib.specs.Routines.{service_label, stack_label}
 use Rattle.im_store.specs.Objects.{Name}
-use Rattle.im_serve.specs.declared.service.Service.TheVariants.{Getchar, Putchar}
+use Rattle.im_serve.specs.declared.service.Service.{Service}
 use Rattle.im_block.specs.declared.code.Line.{Line}
 use Rattle.im_block.specs.declared.code.Line.TheVariants.{Cut, Call, Serve}
 use Rattle.im_block.specs.declared.code.Exit.{Exit}
@@ -31,18 +31,21 @@ use Rattle.im_block.specs.Paths.{IsCut}
 use Rattle.im_block.specs.Forced.{StartsWithCut, CutAfterCalls}
 use Rattle.im_block.specs.Wellformed.{ExitThere}
 use Rattle.im_cut_gap.specs.Remaining.{cost_on}
+use Rattle.im_select.specs.Leads.{led}
 use Rattle.im_select.specs.declared.branching.Test.{Test}
 use Rattle.im_select.specs.declared.distance.Distance.{Distance as Reach}
 use Rattle.im_select.specs.declared.distance.Distance.TheVariants.{Near, Far}
-use Rattle.im_select.specs.Emitted.{high_of, low_of, constant_by, constant_code, adds_by, adds_code, entry_label, labelled, call_code, cut_code, passed_by, way_code, lines_code, behind_each, leave_code, result_code, onward_code, test_line, test_code, test_or, taken_test, own_lines, is_next, branch_code, exit_code, is_empty, taking_code, block_code, laid_order, Laying, next_label, found_code, laid_block, laid_code, blocks_code, enter_code, prologue_code, function_code}
+use Rattle.im_select.specs.Emitted.{high_of, low_of, constant_by, constant_code, adds_by, adds_code, entry_label, labelled, call_code, cut_code, passed_by, way_code, lines_code, behind_each, leave_code, result_code, onward_code, test_line, test_code, test_or, taken_test, own_lines, is_next, branch_code, exit_code, is_empty, taking_code, block_code, others_below, laid_order, kept_order, Laying, leads_of, next_label, found_code, laid_block, laid_code, blocks_code, enter_code, prologue_code, function_code}
 use Rattle.im_select.specs.Places.{CallsBelow}
+use Rattle.im_select.proofs.Following.{LeadsOn, lead_path, lead_below, lead_entry, led_there, kept_first}
 use Rattle.im_select.proofs.Counting.{way_few}
+use Rattle.im_select.proofs.Services.{service_high}
 use Rattle.im_select.proofs.Taking.{IsTaken, Nothing, Comparing, takes, all_left}
 use Rattle.im_saved_lines.specs.Laws.{laid}
 use Rattle.im_saved_lines.proofs.Scanning.{both, same_of, same_is, IsPlain}
 use Rattle.im_saved_lines.proofs.Plain.{adds_plain}
 use Rattle.im_saved_lines.proofs.Working.{IsWork, way_plain}
-use Rattle.im_saved_lines.proofs.Order.{some_there, AreBelow, order_below}
+use Rattle.im_saved_lines.proofs.Order.{some_there, AreBelow, order_below, kept_below}
 use Rattle.im_saved_lines.proofs.Selected.{next_is, test_way}
 use Rattle.im_gap_ranked.proofs.Ranks.{greater, greater_within, After, cut_rank, rank_by, Goes, scan, IsRankedLine, AreRanked, AreWithin, scan_append, scan_labelled, ranked_append, ranked_labelled, within_append, within_labelled, plain_ranked, plain_rank, plain_within}
 use Rattle.im_gap_ranked.proofs.Routines.{entry_rank}
@@ -87,8 +90,7 @@ block_rank left f b = rank_by_entry (b == f.entry) (block_base + left b)
 
 pub record HasCallees (functions : ℕ) (at : ℕ → ℕ) : Type 0 where
   pub stops : at stack_label ≤ cut_rank
-  pub gets : at getchar_label ≤ entry_rank
-  pub puts : at putchar_label ≤ entry_rank
+  pub serves : (service : Service) → at (service_label service) ≤ entry_rank
   pub entries : (i : ℕ) → i < functions → at (entry_label i) ≡ entry_rank
 
 pub record BlockFacts (functions : ℕ) (left : ℕ → ℕ) (f : Function) (b : ℕ) (block : Block) : Type 0 where
@@ -264,10 +266,8 @@ module _ (at : ℕ → ℕ) (places : Name → ℕ) (m : ℕ → ℕ → ℕ) (o
   lines_most n needed before j [] tail exit behind h c = h
   lines_most n needed before j (Cut cause ∷ lines) tail exit behind h c = omega arith
   lines_most n needed before j (Call to i start given ∷ lines) tail exit behind h c = let e = callees.entries i (All-head (CallsBelow functions) (Call to i start given) lines c) in omega arith
-  lines_most n needed before j (Serve to Getchar None ∷ lines) tail exit behind h c = let e = callees.gets in omega arith
-  lines_most n needed before j (Serve to Getchar (Some from) ∷ lines) tail exit behind h c = let e = callees.gets in omega arith
-  lines_most n needed before j (Serve to Putchar None ∷ lines) tail exit behind h c = let e = callees.puts in omega arith
-  lines_most n needed before j (Serve to Putchar (Some from) ∷ lines) tail exit behind h c = let e = callees.puts in omega arith
+  lines_most n needed before j (Serve to service None ∷ lines) tail exit behind h c = let e = callees.serves service in omega arith
+  lines_most n needed before j (Serve to service (Some from) ∷ lines) tail exit behind h c = let e = callees.serves service in omega arith
   lines_most n needed before j (line ∷ lines) tail exit behind h c =
       work_most n needed (passed_by (needed (suc j)) line lines) before j line lines (cost_on left (lines ++ tail) exit) behind tt (λ z. z)
       (lines_most n needed (passed_by (needed (suc j)) line lines) (suc j) lines tail exit behind h (All-tail (CallsBelow functions) line lines c))
@@ -279,21 +279,13 @@ module _ (at : ℕ → ℕ) (places : Name → ℕ) (m : ℕ → ℕ → ℕ) (o
       ranked_append at (call_code 1 (entry_label i)) (lines_code places n needed None (suc j) lines) behind
       (jump_ranked 1 (entry_label i) (scan at (lines_code places n needed None (suc j) lines) behind) (λ e. absurd (omega arith)) (omega arith) (λ e. (let s = starts n needed None (suc j) lines behind k.0 in omega arith)))
       (lines_ranked n needed None (suc j) lines behind o k.1)
-  lines_ranked n needed before j (Serve to Getchar None ∷ lines) behind o k =
-      ranked_append at (call_code 1 getchar_label) (lines_code places n needed None (suc j) lines) behind
-      (jump_ranked 1 getchar_label (scan at (lines_code places n needed None (suc j) lines) behind) (λ e. absurd (omega arith)) (omega arith) (λ e. (let s = starts n needed None (suc j) lines behind k.0 in omega arith)))
+  lines_ranked n needed before j (Serve to service None ∷ lines) behind o k =
+      ranked_append at (call_code 1 (service_label service)) (lines_code places n needed None (suc j) lines) behind
+      (jump_ranked 1 (service_label service) (scan at (lines_code places n needed None (suc j) lines) behind) (λ e. absurd (omega arith)) (service_high service) (λ e. (let s = starts n needed None (suc j) lines behind k.0 in omega arith)))
       (lines_ranked n needed None (suc j) lines behind o k.1)
-  lines_ranked n needed before j (Serve to Getchar (Some from) ∷ lines) behind o k =
-      ranked_append at (call_code 1 getchar_label) (lines_code places n needed None (suc j) lines) behind
-      (jump_ranked 1 getchar_label (scan at (lines_code places n needed None (suc j) lines) behind) (λ e. absurd (omega arith)) (omega arith) (λ e. (let s = starts n needed None (suc j) lines behind k.0 in omega arith)))
-      (lines_ranked n needed None (suc j) lines behind o k.1)
-  lines_ranked n needed before j (Serve to Putchar None ∷ lines) behind o k =
-      ranked_append at (call_code 1 putchar_label) (lines_code places n needed None (suc j) lines) behind
-      (jump_ranked 1 putchar_label (scan at (lines_code places n needed None (suc j) lines) behind) (λ e. absurd (omega arith)) (omega arith) (λ e. (let s = starts n needed None (suc j) lines behind k.0 in omega arith)))
-      (lines_ranked n needed None (suc j) lines behind o k.1)
-  lines_ranked n needed before j (Serve to Putchar (Some from) ∷ lines) behind o k =
-      ranked_append at (call_code 1 putchar_label) (lines_code places n needed None (suc j) lines) behind
-      (jump_ranked 1 putchar_label (scan at (lines_code places n needed None (suc j) lines) behind) (λ e. absurd (omega arith)) (omega arith) (λ e. (let s = starts n needed None (suc j) lines behind k.0 in omega arith)))
+  lines_ranked n needed before j (Serve to service (Some from) ∷ lines) behind o k =
+      ranked_append at (call_code 1 (service_label service)) (lines_code places n needed None (suc j) lines) behind
+      (jump_ranked 1 (service_label service) (scan at (lines_code places n needed None (suc j) lines) behind) (λ e. absurd (omega arith)) (service_high service) (λ e. (let s = starts n needed None (suc j) lines behind k.0 in omega arith)))
       (lines_ranked n needed None (suc j) lines behind o k.1)
   lines_ranked n needed before j (line ∷ lines) behind o k =
       let passed : Option ℕ = passed_by (needed (suc j)) line lines in
@@ -306,6 +298,12 @@ module _ (at : ℕ → ℕ) (places : Name → ℕ) (m : ℕ → ℕ → ℕ) (o
 
   abbrev count : ℕ
   count = length f.blocks.items
+
+  abbrev leads : ℕ → ℕ
+  leads = leads_of laying
+
+  all_below : f.entry < count → AreBelow count (kept_order laying)
+  all_below there = kept_below leads count (laid_order f.entry count) (order_below f.entry count there)
 
   abbrev taken_of : Block → Option Test
   taken_of block = taken_test live block.lines.items block.exit
@@ -329,22 +327,43 @@ module _ (at : ℕ → ℕ) (places : Name → ℕ) (m : ℕ → ℕ → ℕ) (o
   lines_of b block = lines_code places (m b) (needed_of block) None 0 (own_of block)
 
   abbrev ends : Option ℕ → ℕ → Block → List CodeLine
-  ends next b block = exit_code distance next (is_empty (lines_of b block)) first frame (taken_of block) block.exit
+  ends next b block = exit_code distance next (is_empty (lines_of b block)) first frame (taken_of block) (led leads block.exit)
 
   abbrev body : Option ℕ → ℕ → Block → List CodeLine
-  body next b block = taking_code places (m b) (needed_of block) distance next first frame (taken_of block) block.lines.items block.exit
+  body next b block = taking_code places (m b) (needed_of block) distance next first frame (taken_of block) block.lines.items (led leads block.exit)
 
   abbrev code_of : Option ℕ → ℕ → Block → List CodeLine
-  code_of next b block = block_code places (m b) live distance next first frame b block
+  code_of next b block = block_code places (m b) live leads distance next first frame b block
 
-  ends_most : (next : Option ℕ) (b : ℕ) (block : Block) (behind : After) → Meets at next behind → ExitThere count block.exit → (scan at (ends next b block) behind).next ≤ block_base + cost_on left (tail_of block) block.exit
-  ends_most next b block behind meets there =
-      let most = exit_most next (is_empty (lines_of b block)) (taken_of block) block.exit behind meets there in
+  -- as much as is left where a block leads is left at the block
+  abbrev Falls : Type 0
+  Falls = (b : ℕ) → left (leads b) ≤ left b
+
+  led_cost : (exit : Exit) → Falls → cost_on left [] (led leads exit) ≤ cost_on left [] exit
+  led_cost (Jump c) falls = let k = falls c in omega arith
+  led_cost (Turn c) falls = let k = falls c in omega arith
+  led_cost (Branch on x y) falls = let k = falls x in let l = falls y in omega arith
+  led_cost (Return from) falls = omega arith
+
+  onward_cost : (b c : ℕ) → LeadsOn f.blocks.items f.entry b c → ((block : Block) → slice_get f.blocks.items b ≡ Some block → BlockFacts functions left f b block) → left c ≤ left b
+  onward_cost b c on facts =
+      let most = (facts on.block on.there).most in
+      let same : cost_on left on.block.lines.items on.block.exit ≡ cost_on left [] (Jump c) = ap (λ (z : List Line). cost_on left z on.block.exit) on.lines ∙ ap (cost_on left []) on.exit in
+      omega arith
+
+  falls_from : ((b : ℕ) (block : Block) → slice_get f.blocks.items b ≡ Some block → BlockFacts functions left f b block) → Falls
+  falls_from facts b = lead_path f.blocks.items f.entry (λ x d. left d ≤ left x) (λ x. omega arith) (λ x c d on k. (let o = onward_cost x c on (facts x) in omega arith)) b
+
+  ends_most : (next : Option ℕ) (b : ℕ) (block : Block) (behind : After) → Falls → Meets at next behind → ExitThere count block.exit → (scan at (ends next b block) behind).next ≤ block_base + cost_on left (tail_of block) block.exit
+  ends_most next b block behind falls meets there =
+      let inside : ExitThere count (led leads block.exit) = led_there leads count block.exit (λ x h. lead_below f.blocks.items f.entry x count h) there in
+      let most = exit_most next (is_empty (lines_of b block)) (taken_of block) (led leads block.exit) behind meets inside in
+      let further = led_cost block.exit falls in
       let less = tail_cost left live (tail_of block) block.exit (taken_of block) (takes live block.lines.items block.exit).is in
       omega arith
 
-  body_most : (next : Option ℕ) (b : ℕ) (block : Block) (behind : After) → BlockFacts functions left f b block → Meets at next behind → (scan at (body next b block) behind).next ≤ at (first + b)
-  body_most next b block behind facts meets =
+  body_most : (next : Option ℕ) (b : ℕ) (block : Block) (behind : After) → Falls → BlockFacts functions left f b block → Meets at next behind → (scan at (body next b block) behind).next ≤ at (first + b)
+  body_most next b block behind falls facts meets =
       subst (λ z. (scan at (body next b block) behind).next ≤ z) (sym (blocks b facts.inside)) (by (b == f.entry) refl)
     where
       exits : After
@@ -359,20 +378,20 @@ module _ (at : ℕ → ℕ) (places : Name → ℕ) (m : ℕ → ℕ → ℕ) (o
           let q = is in
           omega arith
       by false e =
-          let whole = lines_most (m b) (needed_of block) None 0 (own_of block) (tail_of block) block.exit exits (ends_most next b block behind meets facts.there) (own_calls block facts.calls) in
+          let whole = lines_most (m b) (needed_of block) None 0 (own_of block) (tail_of block) block.exit exits (ends_most next b block behind falls meets facts.there) (own_calls block facts.calls) in
           let all = ap (λ (z : List Line). cost_on left z block.exit) (whole_of block) in
           let most = facts.most in
           let q = is in
           omega arith
 
-  block_within_label : (next : Option ℕ) (b : ℕ) (block : Block) (behind : After) → BlockFacts functions left f b block → Meets at next behind → (scan at (code_of next b block) behind).next ≤ at (first + b)
-  block_within_label next b block behind facts meets =
-      subst (λ (z : After). z.next ≤ at (first + b)) (sym (scan_labelled at (first + b) (body next b block) behind)) (body_most next b block behind facts meets)
+  block_within_label : (next : Option ℕ) (b : ℕ) (block : Block) (behind : After) → Falls → BlockFacts functions left f b block → Meets at next behind → (scan at (code_of next b block) behind).next ≤ at (first + b)
+  block_within_label next b block behind falls facts meets =
+      subst (λ (z : After). z.next ≤ at (first + b)) (sym (scan_labelled at (first + b) (body next b block) behind)) (body_most next b block behind falls facts meets)
 
-  block_ranked : (next : Option ℕ) (b : ℕ) (block : Block) (behind : After) → BlockFacts functions left f b block → Meets at next behind → AreRanked at (code_of next b block) behind
-  block_ranked next b block behind facts meets =
-      ranked_labelled at (first + b) (body next b block) behind (body_most next b block behind facts meets)
-      (ranked_append at (lines_of b block) (ends next b block) behind (lines_ranked (m b) (needed_of block) None 0 (own_of block) (scan at (ends next b block) behind) (okay b) (calls_left live (own_of block) (tail_of block) block.exit (taken_of block) (takes live block.lines.items block.exit).is (subst CutAfterCalls (sym (whole_of block)) facts.cuts))) (exit_ranked next (is_empty (lines_of b block)) (taken_of block) block.exit behind))
+  block_ranked : (next : Option ℕ) (b : ℕ) (block : Block) (behind : After) → Falls → BlockFacts functions left f b block → Meets at next behind → AreRanked at (code_of next b block) behind
+  block_ranked next b block behind falls facts meets =
+      ranked_labelled at (first + b) (body next b block) behind (body_most next b block behind falls facts meets)
+      (ranked_append at (lines_of b block) (ends next b block) behind (lines_ranked (m b) (needed_of block) None 0 (own_of block) (scan at (ends next b block) behind) (okay b) (calls_left live (own_of block) (tail_of block) block.exit (taken_of block) (takes live block.lines.items block.exit).is (subst CutAfterCalls (sym (whole_of block)) facts.cuts))) (exit_ranked next (is_empty (lines_of b block)) (taken_of block) (led leads block.exit) behind))
 
   -- ---- as they are laid
 
@@ -385,7 +404,7 @@ module _ (at : ℕ → ℕ) (places : Name → ℕ) (m : ℕ → ℕ → ℕ) (o
 
         by : (o : Option Block) → slice_get f.blocks.items b ≡ o → (scan at (found_code laying b next o) behind).next ≤ at (first + b)
         by None e = absurd (some_there f.blocks.items b there e)
-        by (Some block) e = block_within_label next b block behind (facts b block e) meets
+        by (Some block) e = block_within_label next b block behind (falls_from facts) (facts b block e) meets
 
     laid_ranked : (b : ℕ) (order : List ℕ) (behind : After) → Meets at (next_label first order) behind → AreRanked at (laid_block laying b order) behind
     laid_ranked b order behind meets = by (slice_get f.blocks.items b) refl
@@ -395,7 +414,7 @@ module _ (at : ℕ → ℕ) (places : Name → ℕ) (m : ℕ → ℕ → ℕ) (o
 
         by : (o : Option Block) → slice_get f.blocks.items b ≡ o → AreRanked at (found_code laying b next o) behind
         by None e = tt
-        by (Some block) e = block_ranked next b block behind (facts b block e) meets
+        by (Some block) e = block_ranked next b block behind (falls_from facts) (facts b block e) meets
 
     code_meets : (order : List ℕ) (behind : After) → AreBelow count order → Meets at (next_label first order) (scan at (laid_code laying order) behind)
     code_meets [] behind h l e = absurd cc
@@ -414,7 +433,8 @@ module _ (at : ℕ → ℕ) (places : Name → ℕ) (m : ℕ → ℕ → ℕ) (o
     -- the prologue goes on to the entry
     entered_most : (behind : After) → f.entry < count → (scan at (blocks_code laying) behind).next ≤ cut_rank
     entered_most behind there =
-        let most = code_meets (laid_order f.entry count) behind (order_below f.entry count there) (first + f.entry) refl in
+        let begins = kept_first leads f.entry (others_below f.entry count) (lead_entry f.blocks.items f.entry) in
+        let most = code_meets (kept_order laying) behind (all_below there) (first + f.entry) (ap (next_label first) begins) in
         let is = entry_is there in
         omega arith
 
@@ -448,7 +468,7 @@ module _ (at : ℕ → ℕ) (places : Name → ℕ) (m : ℕ → ℕ → ℕ) (o
       ranked_append at (labelled (entry_label i) (prologue_code frame)) rest behind
       (ranked_labelled at (entry_label i) (prologue_code frame) onward (omega arith)
       (ranked_append at (adds_code 6 by) enter_code onward (plain_ranked at (adds_code 6 by) (scan at enter_code onward) (adds_plain 6 by)) (enter_ranked onward)))
-      (code_ranked facts (laid_order f.entry count) behind (order_below f.entry count there))
+      (code_ranked facts (kept_order laying) behind (all_below there))
 
   -- ---- what stands behind cuts
 
@@ -506,18 +526,16 @@ module _ (at : ℕ → ℕ) (places : Name → ℕ) (m : ℕ → ℕ → ℕ) (o
       one : (x : Line) → HasLittleLeft top (x ∷ (lines ++ tail)) exit → AreWithin at top (way_code places (n j) passed before x) onward
       one (Cut cause) k = ((λ jumps cut. (let most = lines_most n needed passed (suc j) lines tail exit behind h later in let less = k [] cause (lines ++ tail) refl in omega arith)), tt)
       one (Call to i start given) k = jump_within top 1 (entry_label i) onward (λ e. absurd (omega arith))
-      one (Serve to Getchar None) k = jump_within top 1 getchar_label onward (λ e. absurd (omega arith))
-      one (Serve to Getchar (Some from)) k = jump_within top 1 getchar_label onward (λ e. absurd (omega arith))
-      one (Serve to Putchar None) k = jump_within top 1 putchar_label onward (λ e. absurd (omega arith))
-      one (Serve to Putchar (Some from)) k = jump_within top 1 putchar_label onward (λ e. absurd (omega arith))
+      one (Serve to service None) k = jump_within top 1 (service_label service) onward (λ e. absurd (omega arith))
+      one (Serve to service (Some from)) k = jump_within top 1 (service_label service) onward (λ e. absurd (omega arith))
       one x k = plain_within at top (way_code places (n j) passed before x) onward (way_plain places (n j) passed before x tt)
 
-  block_within : (top : ℕ) (next : Option ℕ) (b : ℕ) (block : Block) (behind : After) → BlockFacts functions left f b block → HasLittleLeft top block.lines.items block.exit → Meets at next behind → AreWithin at top (code_of next b block) behind
-  block_within top next b block behind facts little meets =
+  block_within : (top : ℕ) (next : Option ℕ) (b : ℕ) (block : Block) (behind : After) → Falls → BlockFacts functions left f b block → HasLittleLeft top block.lines.items block.exit → Meets at next behind → AreWithin at top (code_of next b block) behind
+  block_within top next b block behind falls facts little meets =
       within_labelled at top (first + b) (body next b block) behind
       (within_append at top (lines_of b block) (ends next b block) behind
-      (lines_within top (m b) (needed_of block) None 0 (own_of block) (tail_of block) block.exit (scan at (ends next b block) behind) (ends_most next b block behind meets facts.there) (own_calls block facts.calls) (subst (λ (z : List Line). HasLittleLeft top z block.exit) (sym (whole_of block)) little))
-      (exit_within top next (is_empty (lines_of b block)) (taken_of block) block.exit behind))
+      (lines_within top (m b) (needed_of block) None 0 (own_of block) (tail_of block) block.exit (scan at (ends next b block) behind) (ends_most next b block behind falls meets facts.there) (own_calls block facts.calls) (subst (λ (z : List Line). HasLittleLeft top z block.exit) (sym (whole_of block)) little))
+      (exit_within top next (is_empty (lines_of b block)) (taken_of block) (led leads block.exit) behind))
 
   -- a block's facts, and little left behind its cuts
   abbrev Facts : ℕ → ℕ → Block → Type 0
@@ -532,7 +550,7 @@ module _ (at : ℕ → ℕ) (places : Name → ℕ) (m : ℕ → ℕ → ℕ) (o
 
         by : (o : Option Block) → slice_get f.blocks.items b ≡ o → AreWithin at top (found_code laying b next o) behind
         by None e = tt
-        by (Some block) e = (let k = facts b block e in block_within top next b block behind k.0 k.1 meets)
+        by (Some block) e = (let k = facts b block e in block_within top next b block behind (falls_from (λ c x g. (facts c x g).0)) k.0 k.1 meets)
 
     code_within : (order : List ℕ) (behind : After) → AreBelow count order → AreWithin at top (laid_code laying order) behind
     code_within [] behind h = tt
@@ -551,4 +569,4 @@ module _ (at : ℕ → ℕ) (places : Name → ℕ) (m : ℕ → ℕ → ℕ) (o
       let rest : List CodeLine = blocks_code laying in
       within_append at top (labelled (entry_label i) (prologue_code frame)) rest behind
       (within_labelled at top (entry_label i) (prologue_code frame) (scan at rest behind) (prologue_within top (scan at rest behind)))
-      (code_within top facts (laid_order f.entry count) behind (order_below f.entry count there))
+      (code_within top facts (kept_order laying) behind (all_below there))

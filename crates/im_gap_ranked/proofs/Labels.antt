@@ -1,10 +1,13 @@
 -- The number of each label of a program.
-use Rattle.std.proofs.Common.{◌≡◌, ℕ, true, false, zero, suc, ◌+◌, ◌-◌, ◌<◌, ◌≤◌, List, [], ◌∷◌, Some, length, take, ap, ◌∙◌, arith}
-use Rattle.std.specs.Prelude.{nat_lt, if◌then◌else◌, slice_get}
+use Rattle.std.proofs.Common.{◌≡◌, ℕ, true, false, refl, zero, suc, ◌+◌, ◌-◌, ◌<◌, ◌≤◌, List, [], ◌∷◌, Some, length, take, ap, ◌∙◌, arith}
+use Rattle.std.specs.Prelude.{nat_lt, nat_le, if◌then◌else◌, slice_get}
 use Rattle.std.proofs.lemmas.Bool.Decides.{nat_tests}
+use Rattle.im_serve.specs.declared.service.Service.{Service}
+use Rattle.im_rtlib.specs.Routines.{service_label}
 use Rattle.im_block.specs.declared.unit.Function.{Function}
 use Rattle.im_block.specs.Shape.{sum_of}
 use Rattle.im_select.specs.Emitted.{entry_label}
+use Rattle.im_select.proofs.Services.{each_service}
 use Rattle.im_link_laws.specs.Program.{first_label}
 use Rattle.im_gap_ranked.proofs.Routines.{entry_rank, low_rank, at_labels}
 use Rattle.im_gap_ranked.proofs.Blocks.{block_rank, HasCallees}
@@ -14,6 +17,9 @@ less_is a b h = grind (arith, nat_tests)
 
 less_not : (a b : ℕ) → b ≤ a → nat_lt a b ≡ false
 less_not a b h = grind (arith, nat_tests)
+
+at_most : (a b : ℕ) → nat_le a b ≡ true → a ≤ b
+at_most a b h = grind (arith, nat_tests)
 
 -- lefts: of each function, what is left at the starts of its blocks
 module _ (functions : List Function) (lefts : ℕ → ℕ → ℕ) where
@@ -62,5 +68,8 @@ module _ (functions : List Function) (lefts : ℕ → ℕ → ℕ) where
       ∙ ap (λ t. if t then entry_rank else in_blocks functions 0 (l - n)) (less_not l n (omega arith))
       ∙ ap (λ c. in_blocks functions 0 c) back ∙ found functions 0 i b f e h ∙ ap (λ c. block_rank (lefts c) f b) i0
 
+  at_service : (service : Service) → at (service_label service) ≤ entry_rank
+  at_service service = at_most (at (service_label service)) entry_rank (each_service (λ s. nat_le (at (service_label s)) entry_rank) refl service)
+
   pub callees : HasCallees (length functions) at
-  callees = record { stops = omega arith; gets = omega arith; puts = omega arith; entries = at_entry }
+  callees = record { stops = omega arith; serves = at_service; entries = at_entry }

@@ -8,7 +8,9 @@ use Rattle.im_rv.specs.Decode.{Line}
 use Rattle.im_rv.specs.Lines.{CodeLine}
 use Rattle.im_gap.specs.declared.flow.Turn.{Turn}
 use Rattle.im_gap.specs.declared.flow.Turn.TheVariants.{Passes, Jumps, Branches, Returns, Stops}
-use Rattle.im_rtlib.specs.Routines.{getchar, putchar, exit, stack}
+use Rattle.im_serve.specs.declared.service.Service.{Service}
+use Rattle.im_rtlib.specs.Routines.{routine, exit, stack}
+use Rattle.im_select.proofs.Services.{each_service}
 use Rattle.im_saved_lines.specs.Scan.{way}
 use Rattle.im_saved_lines.proofs.Scanning.{both, either, not_true, same_of, same_is}
 use Rattle.im_gap_ranked.proofs.Ranks.{After, cut_rank, rank_of, scan, GoesTo, Goes, AreRanked, AreWithin}
@@ -126,11 +128,8 @@ routine_rank = cut_rank + 3
 -- ---- the routines
 
 module _ (beyond : ℕ → ℕ) (behind : After) where
-  pub getchar_ranked : AreRanked (at_labels beyond) getchar behind
-  getchar_ranked = tested (at_labels beyond) getchar behind refl
-
-  pub putchar_ranked : AreRanked (at_labels beyond) putchar behind
-  putchar_ranked = tested (at_labels beyond) putchar behind refl
+  pub service_ranked : (service : Service) → AreRanked (at_labels beyond) (routine service) behind
+  service_ranked service = tested (at_labels beyond) (routine service) behind (each_service (λ s. lines_test (at_labels beyond) (routine s) behind) refl service)
 
   pub stack_ranked : AreRanked (at_labels beyond) stack behind
   stack_ranked = tested (at_labels beyond) stack behind refl
@@ -143,11 +142,8 @@ module _ (beyond : ℕ → ℕ) (behind : After) where
   exit_rank = refl
 
   module _ (top : ℕ) (enough : routine_rank ≤ top) where
-    pub getchar_within : AreWithin (at_labels beyond) top getchar behind
-    getchar_within = within_is (at_labels beyond) routine_rank top getchar behind enough refl
-
-    pub putchar_within : AreWithin (at_labels beyond) top putchar behind
-    putchar_within = within_is (at_labels beyond) routine_rank top putchar behind enough refl
+    pub service_within : (service : Service) → AreWithin (at_labels beyond) top (routine service) behind
+    service_within service = within_is (at_labels beyond) routine_rank top (routine service) behind enough (each_service (λ s. all_test (at_labels beyond) routine_rank (routine s) behind) refl service)
 
     pub stack_within : AreWithin (at_labels beyond) top stack behind
     stack_within = within_is (at_labels beyond) routine_rank top stack behind enough refl

@@ -10,7 +10,8 @@ use Rattle.im_rv.specs.Code.{address}
 use Rattle.im_ckpt.specs.Recovery.{recovery}
 use Rattle.im_ckpt.specs.Checkpoint.{checkpoint_code, entry_at}
 use Rattle.im_rv_reach.specs.Instructions.{jumping}
-use Rattle.im_rtlib.specs.Routines.{aimed, getchar, putchar, stack}
+use Rattle.im_serve.specs.declared.service.Service.{Service}
+use Rattle.im_rtlib.specs.Routines.{aimed, routine, stack}
 use Rattle.im_gap.specs.Flow.{Flow, IsResumeWord}
 use Rattle.im_gap.specs.Gap.{IsBounded, HasGap}
 use Rattle.im_gap.proofs.Walking.{rank_law}
@@ -33,14 +34,15 @@ use Rattle.im_live.proofs.Least.{entry_within}
 use Rattle.im_select.specs.Emitted.{entry_label}
 use Rattle.im_select.specs.Places.{at_of}
 use Rattle.im_select.specs.Selects.{HasLabel, IsClosedBlock}
-use Rattle.im_link_laws.specs.Program.{HasCode, part_of, first_label, given_at, start_code, IsProgram}
+use Rattle.im_link_laws.specs.Program.{HasCode, routine_part, part_of, first_label, given_at, start_code, IsProgram}
 use Rattle.im_link_laws.proofs.Runtimes.{saved_there, size_of}
+use Rattle.im_link_laws.proofs.Services.{routine_there, PartAt, ServicePart, StackPart, LaterPart, part_at}
 use Rattle.im_link_laws.proofs.Standing.{behind}
 use Rattle.im_saved_code.proofs.Parts.{code_is}
 use Rattle.im_saved_lines.specs.Scan.{way}
 use Rattle.im_gap_ranked.specs.Laws.{HasShortGap}
 use Rattle.im_gap_ranked.proofs.Ranks.{After, nothing, AreRanked, AreWithin}
-use Rattle.im_gap_ranked.proofs.Routines.{entry_rank, routine_rank, getchar_ranked, putchar_ranked, stack_ranked, exit_ranked, getchar_within, putchar_within, stack_within, exit_within}
+use Rattle.im_gap_ranked.proofs.Routines.{entry_rank, routine_rank, service_ranked, stack_ranked, exit_ranked, service_within, stack_within, exit_within}
 use Rattle.im_gap_ranked.proofs.Blocks.{block_base, BlockFacts, function_ranked, function_within}
 use Rattle.im_gap_ranked.proofs.Labels.{beyond, at, at_block, callees}
 use Rattle.im_gap_ranked.proofs.Runtime.{others, other_part, Split, split}
@@ -125,35 +127,34 @@ module _ (u : Code) (statics : List ℕ) (layouts : List Layout) (parts : List P
       top i after own.selectable.entry (λ b block g. (block_facts i f e b block g, little i f e b block g)))
 
   -- what holds of the lines of each of these parts
-  module _ (P : List CodeLine → Type 0) (gets : P getchar) (puts : P putchar) (stops : P stack) (starts : P (start_code u.main)) (each : (i : ℕ) (f : Function) (e : slice_get functions i ≡ Some f) → P (program.functions i f e).code) where
+  module _ (P : List CodeLine → Type 0) (serves : (service : Service) → P (routine service)) (stops : P stack) (starts : P (start_code u.main)) (each : (i : ℕ) (f : Function) (e : slice_get functions i ≡ Some f) → P (program.functions i f e).code) where
     known : (p : ℕ) (part : Part) (code : List CodeLine) → IsPart parts p part → HasCode parts p code → P code → P (code_lines part.lines.items)
     known p part code is_part c s = subst P (sym (code_is parts p part code is_part c)) s
 
     -- behind recovery and the checkpoint
     each_part : (p : ℕ) (part : Part) → IsPart parts (suc (suc p)) part → P (code_lines part.lines.items)
-    each_part zero part e = known 2 part getchar e program.gets gets
-    each_part (suc zero) part e = known 3 part putchar e program.puts puts
-    each_part (suc (suc zero)) part e = known 4 part stack e program.stops stops
-    each_part (suc (suc (suc i))) part e = elim (slice_get_cases functions i).1 [
-      | inl c ↦
-          (let q : suc (suc (suc (suc (suc i)))) ≡ part_of i = omega arith in
-          let own = program.functions i c.0 c.2 in
-          known (part_of i) part own.code (subst (λ z. IsPart parts z part) q e) own.there (each i c.0 c.2))
-      | inr c ↦
-          (let le = c.0 in
-          let count = program.count in
-          let within = slice_get_within parts (suc (suc (suc (suc (suc i))))) part e in
-          let q : suc (suc (suc (suc (suc i)))) ≡ part_of (length functions) = omega arith in
-          known (part_of (length functions)) part (start_code u.main) (subst (λ z. IsPart parts z part) q e) program.begins starts)
-    ]
+    each_part p part e = by (suc (suc p)) (part_at p) e
+      where
+        by : (n : ℕ) → PartAt n → IsPart parts n part → P (code_lines part.lines.items)
+        by n (ServicePart service) e = known (routine_part service) part (routine service) e (routine_there u statics layouts parts program service) (serves service)
+        by n StackPart e = known 4 part stack e program.stops stops
+        by n (LaterPart i) e = elim (slice_get_cases functions i).1 [
+          | inl c ↦ (let own = program.functions i c.0 c.2 in known (part_of i) part own.code e own.there (each i c.0 c.2))
+          | inr c ↦
+              (let le = c.0 in
+              let count = program.count in
+              let within = slice_get_within parts (part_of i) part e in
+              let q : part_of i ≡ part_of (length functions) = omega arith in
+              known (part_of (length functions)) part (start_code u.main) (subst (λ z. IsPart parts z part) q e) program.begins starts)
+        ]
 
   part_ranked : (p : ℕ) (part : Part) (after : After) → IsPart parts (suc (suc p)) part → AreRanked labelled (code_lines part.lines.items) after
   part_ranked p part after e =
-      each_part (λ z. AreRanked labelled z after) (getchar_ranked numbers after) (putchar_ranked numbers after) (stack_ranked numbers after) (start_ranked after) (λ i f g. function_ranks i f g after) p part e
+      each_part (λ z. AreRanked labelled z after) (service_ranked numbers after) (stack_ranked numbers after) (start_ranked after) (λ i f g. function_ranks i f g after) p part e
 
   part_within : (top p : ℕ) (part : Part) (after : After) → routine_rank ≤ top → IsLittle top → IsPart parts (suc (suc p)) part → AreWithin labelled top (code_lines part.lines.items) after
   part_within top p part after le little e =
-      each_part (λ z. AreWithin labelled top z after) (getchar_within numbers after top le) (putchar_within numbers after top le) (stack_within numbers after top le) (start_within top after le) (λ i f g. function_bounds top little i f g after) p part e
+      each_part (λ z. AreWithin labelled top z after) (service_within numbers after top le) (stack_within numbers after top le) (start_within top after le) (λ i f g. function_bounds top little i f g after) p part e
 
   -- ---- linked
 

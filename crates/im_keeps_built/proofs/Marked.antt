@@ -32,10 +32,11 @@ use Rattle.im_block.specs.declared.code.Block.{Block}
 use Rattle.im_block.specs.declared.unit.Function.{Function}
 use Rattle.im_block.specs.declared.unit.Unit.{Unit as Code}
 use Rattle.im_frame.specs.declared.layout.Layout.{Layout}
+use Rattle.im_select.specs.Leads.{led}
 use Rattle.im_select.specs.declared.branching.Test.{Test}
 use Rattle.im_select.specs.declared.distance.Distance.{Distance as Reach}
 use Rattle.im_select.specs.declared.distance.Distance.TheVariants.{Near, Far}
-use Rattle.im_select.specs.Emitted.{high_of, low_of, constant_by, constant_code, displaced_by, displaced_code, adds_by, adds_code, place_number, place_code, moved_code, copied_code, step_op, shift_of, shifts_code, scaled_code, based_code, address_code, computed_code, immediate_line, passed_by, by_or, way_code, line_code, lines_code, behind_each, onward_code, test_op, test_code, test_or, taken_test, own_lines, is_next, branch_code, exit_code, is_empty, result_code, leave_code, block_code, laid_order, Laying, next_label, found_code, laid_block, laid_code, blocks_code, prologue_code, function_code, labelled, entry_label}
+use Rattle.im_select.specs.Emitted.{high_of, low_of, constant_by, constant_code, displaced_by, displaced_code, adds_by, adds_code, place_number, place_code, moved_code, copied_code, step_op, shift_of, shifts_code, scaled_code, based_code, address_code, computed_code, immediate_line, passed_by, by_or, way_code, line_code, lines_code, behind_each, onward_code, test_op, test_code, test_or, taken_test, own_lines, is_next, branch_code, exit_code, is_empty, result_code, leave_code, block_code, kept_order, Laying, leads_of, next_label, found_code, laid_block, laid_code, blocks_code, prologue_code, function_code, labelled, entry_label}
 use Rattle.im_select.specs.Selects.{laying_of}
 use Rattle.im_link_laws.specs.Program.{HasCode, part_of, given_at, start_code, IsProgram}
 use Rattle.im_saved_lines.specs.Scan.{way}
@@ -245,19 +246,19 @@ labelled_marked : (label : ℕ) (lines : List CodeLine) → AreMarked lines → 
 labelled_marked label [] a = tt
 labelled_marked label (x ∷ xs) a = (a.0, a.1)
 
-block_marked : (at : Name → ℕ) (m : ℕ → ℕ) (live : ℕ → ℕ → Bool) (distance : Reach) (next : Option ℕ) (first frame b : ℕ) (block : Block) → AreMarked (block_code at m live distance next first frame b block)
-block_marked at m live distance next first frame b block =
+block_marked : (at : Name → ℕ) (m : ℕ → ℕ) (live : ℕ → ℕ → Bool) (leads : ℕ → ℕ) (distance : Reach) (next : Option ℕ) (first frame b : ℕ) (block : Block) → AreMarked (block_code at m live leads distance next first frame b block)
+block_marked at m live leads distance next first frame b block =
     let taken : Option Test = taken_test live block.lines.items block.exit in
     let own : List Line = own_lines taken block.lines.items in
     let needed : ℕ → ℕ → Bool = behind_each live block.lines.items block.exit in
     let lines : List CodeLine = lines_code at m needed None 0 own in
-    let ends : List CodeLine = exit_code distance next (is_empty lines) first frame taken block.exit in
+    let ends : List CodeLine = exit_code distance next (is_empty lines) first frame taken (led leads block.exit) in
     labelled_marked (first + b) (lines ++ ends)
-    (marked_append lines ends (lines_marked at m needed None 0 own) (exit_marked distance next (is_empty lines) first frame taken block.exit))
+    (marked_append lines ends (lines_marked at m needed None 0 own) (exit_marked distance next (is_empty lines) first frame taken (led leads block.exit)))
 
 found_marked : (laying : Laying) (b : ℕ) (next : Option ℕ) (o : Option Block) → AreMarked (found_code laying b next o)
 found_marked laying b next None = tt
-found_marked laying b next (Some block) = block_marked laying.at (laying.cut b) laying.live laying.distance next laying.first laying.frame b block
+found_marked laying b next (Some block) = block_marked laying.at (laying.cut b) laying.live (leads_of laying) laying.distance next laying.first laying.frame b block
 
 laid_marked : (laying : Laying) (order : List ℕ) → AreMarked (laid_code laying order)
 laid_marked laying [] = tt
@@ -272,7 +273,7 @@ function_marked : (i : ℕ) (laying : Laying) → AreMarked (function_code i lay
 function_marked i laying =
     marked_append (labelled (entry_label i) (prologue_code laying.frame)) (blocks_code laying)
     (labelled_marked (entry_label i) (prologue_code laying.frame) (prologue_marked laying.frame))
-    (laid_marked laying (laid_order laying.entry (length laying.blocks)))
+    (laid_marked laying (kept_order laying))
 
 -- ---- the lines of all parts
 

@@ -11,17 +11,20 @@ use Rattle.im_rv.specs.Formats.{format_of}
 use Rattle.im_rv.specs.Lines.{CodeLine, plain_line}
 use Rattle.im_ckpt.specs.Recovery.{recovery}
 use Rattle.im_ckpt.specs.Checkpoint.{checkpoint_code}
-use Rattle.im_rtlib.specs.Routines.{aimed, getchar, putchar, exit, stack}
+use Rattle.im_serve.specs.declared.service.Service.{Service}
+use Rattle.im_serve.specs.declared.service.Service.TheVariants.{Getchar, Putchar}
+use Rattle.im_rtlib.specs.Routines.{aimed, getchar, putchar, routine, exit, stack}
 use Rattle.im_rv_reach.specs.Instructions.{jumping}
 use Rattle.im_block.specs.declared.unit.Function.{Function}
 use Rattle.im_block.specs.declared.unit.Unit.{Unit as Code}
 use Rattle.im_select.specs.Emitted.{entry_label}
 use Rattle.im_select.specs.Selects.{accesses_in, causes_in, HasLabel, IsTarget, IsNear}
 use Rattle.im_frame.specs.declared.layout.Layout.{Layout}
-use Rattle.im_link_laws.specs.Program.{HasCode, IsProgram, part_of, start_code, given_at}
+use Rattle.im_link_laws.specs.Program.{HasCode, IsProgram, routine_part, part_of, start_code, given_at}
 use Rattle.im_link_laws.specs.Laws.{Within, NamesOwn, NamesAccesses}
 use Rattle.im_link_laws.proofs.Gathering.{laid_names}
 use Rattle.im_link_laws.proofs.Runtimes.{saved_there}
+use Rattle.im_link_laws.proofs.Services.{routine_there, routine_begins, PartAt, ServicePart, StackPart, LaterPart, part_at}
 use Rattle.im_link_laws.proofs.Owning.{part_for, Owner, Low, Entry, Own, label_check, known, target_check, Aim, ToCheckpoint, Within as Close, aims}
 
 pub data Goal (parts : List Part) (code : List CodeLine) (k l : ℕ) (op : Op) : Type 0 where
@@ -99,11 +102,9 @@ module _ (u : Code) (statics : List ℕ) (layouts : List Layout) (parts : List P
   saves : Facts u.functions.items parts 1
   saves = known_facts u.functions.items parts 1 1 checkpoint_at checkpoint_code program.saves program.saves refl refl refl (no_causes [])
 
-  gets : Facts u.functions.items parts 2
-  gets = known_facts u.functions.items parts 2 2 getchar_at getchar program.saves program.gets refl refl refl getchar_names
-
-  puts : Facts u.functions.items parts 3
-  puts = known_facts u.functions.items parts 3 3 putchar_at putchar program.saves program.puts refl refl refl putchar_names
+  serves : (service : Service) → Facts u.functions.items parts (routine_part service)
+  serves Getchar = known_facts u.functions.items parts 2 2 getchar_at getchar program.saves program.gets refl refl refl getchar_names
+  serves Putchar = known_facts u.functions.items parts 3 3 putchar_at putchar program.saves program.puts refl refl refl putchar_names
 
   stops : Facts u.functions.items parts 4
   stops = known_facts u.functions.items parts 4 4 zero_at stack program.saves program.stops refl refl refl (no_causes [])
@@ -111,14 +112,13 @@ module _ (u : Code) (statics : List ℕ) (layouts : List Layout) (parts : List P
   -- where a label stands that a function's line leads to
   target : (i : ℕ) (f : Function) (e : slice_get u.functions.items i ≡ Some f) (code : List CodeLine) (k l : ℕ) (op : Op) → op ≡ Jal → IsTarget (given_at u.functions.items statics i f (program.functions i f e).layout) l → Goal parts code k l op
   target i f e code k l op far (inl a) = let low = a.0 in let high = a.1 in Elsewhere 1 (5 * (l - 4)) checkpoint_code program.saves (saved_there l (omega arith) (omega arith)) far
-  target i f e code k l op far (inr (inl a)) = Elsewhere 2 0 getchar program.gets (subst (HasLabel getchar 0) (sym a) (record { line = _; there = refl; is = refl })) far
-  target i f e code k l op far (inr (inr (inl a))) = Elsewhere 3 0 putchar program.puts (subst (HasLabel putchar 0) (sym a) (record { line = _; there = refl; is = refl })) far
-  target i f e code k l op far (inr (inr (inr (inl a)))) = Elsewhere 4 0 stack program.stops (subst (HasLabel stack 0) (sym a) (record { line = _; there = refl; is = refl })) far
-  target i f e code k l op far (inr (inr (inr (inr (inl a))))) = elim (slice_get_cases u.functions.items a.0).1 [
+  target i f e code k l op far (inr (inl a)) = Elsewhere (routine_part a.0) 0 (routine a.0) (routine_there u statics layouts parts program a.0) (subst (HasLabel (routine a.0) 0) (sym a.1) (routine_begins a.0)) far
+  target i f e code k l op far (inr (inr (inl a))) = Elsewhere 4 0 stack program.stops (subst (HasLabel stack 0) (sym a) (record { line = _; there = refl; is = refl })) far
+  target i f e code k l op far (inr (inr (inr (inl a)))) = elim (slice_get_cases u.functions.items a.0).1 [
     | inl c ↦ (let other = program.functions a.0 c.0 c.2 in Elsewhere (part_of a.0) 0 other.code other.there (subst (HasLabel other.code 0) (sym a.2) other.selection.entry) far)
     | inr c ↦ (let le = c.0 in let less = a.1 in absurd (omega arith))
   ]
-  target i f e code k l op far (inr (inr (inr (inr (inr b))))) =
+  target i f e code k l op far (inr (inr (inr (inr b)))) =
       let own = program.functions i f e in
       Elsewhere (part_of i) (own.selection.starts b.0) own.code own.there (subst (HasLabel own.code (own.selection.starts b.0)) (sym b.2) (own.selection.blocks b.0 b.1)) far
 
@@ -187,12 +187,14 @@ module _ (u : Code) (statics : List ℕ) (layouts : List Layout) (parts : List P
   pub facts_of : NamesAccesses u → (p : ℕ) → p < length parts → Facts u.functions.items parts p
   facts_of names zero h = recovers
   facts_of names (suc zero) h = saves
-  facts_of names (suc (suc zero)) h = gets
-  facts_of names (suc (suc (suc zero))) h = puts
-  facts_of names (suc (suc (suc (suc zero)))) h = stops
-  facts_of names (suc (suc (suc (suc (suc i))))) h =
-      let count = program.count in
-      elim (slice_get_cases u.functions.items i).1 [
-        | inl c ↦ (let q : part_of i ≡ suc (suc (suc (suc (suc i)))) = omega arith in subst (Facts u.functions.items parts) q (of_function names i c.0 c.2))
-        | inr c ↦ (let le = c.0 in let q : part_of (length u.functions.items) ≡ suc (suc (suc (suc (suc i)))) = omega arith in subst (Facts u.functions.items parts) q begins)
-      ]
+  facts_of names (suc (suc p)) h = by (suc (suc p)) (part_at p) h
+    where
+      by : (n : ℕ) → PartAt n → n < length parts → Facts u.functions.items parts n
+      by n (ServicePart service) lt = serves service
+      by n StackPart lt = stops
+      by n (LaterPart i) lt =
+          let count = program.count in
+          elim (slice_get_cases u.functions.items i).1 [
+            | inl c ↦ of_function names i c.0 c.2
+            | inr c ↦ (let le = c.0 in let q : part_of (length u.functions.items) ≡ part_of i = omega arith in subst (Facts u.functions.items parts) q begins)
+          ]

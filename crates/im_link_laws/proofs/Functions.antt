@@ -12,7 +12,7 @@ use Rattle.im_rv.specs.Code.{address}
 use Rattle.im_rv_reach.specs.Instructions.{Holds}
 use Rattle.im_link.specs.Parts.{first_of}
 use Rattle.im_link.specs.Code.{IsLinkable, IsLinked as IsLinkedCode}
-use Rattle.im_rtlib.specs.Routines.{getchar_label, putchar_label, stack_label}
+use Rattle.im_rtlib.specs.Routines.{service_label, stack_label}
 use Rattle.im_rtlib_laws.specs.Standing.{aimed_at}
 use Rattle.im_store.specs.Objects.{Name, Named, Slot, Shape, shape_of}
 use Rattle.im_block.specs.declared.code.Line.{Line}
@@ -24,6 +24,7 @@ use Rattle.im_block.specs.declared.unit.Unit.{Unit as Code}
 use Rattle.im_block.specs.Wellformed.{ExitThere}
 use Rattle.im_block.specs.Meaning.{Setting, shapes_of, shape_at, slot_shape}
 use Rattle.im_alloc_placed.specs.Operands.{HasObject}
+use Rattle.im_select.specs.Leads.{lead}
 use Rattle.im_select_relation.specs.Linking.{Linking, frame_of}
 use Rattle.im_select_relation.specs.Selected.{Test, nonzero, comparing}
 use Rattle.im_select_relation.specs.Linked.{FunctionAt}
@@ -34,7 +35,7 @@ use Rattle.im_select.specs.Selects.{Agrees, IsClosedBlock}
 use Rattle.im_select.proofs.Machine.{all_at}
 use Rattle.im_frame.specs.declared.layout.Layout.{Layout}
 use Rattle.im_link_laws.specs.Program.{IsProgram, part_of, first_label, given_at}
-use Rattle.im_link_laws.specs.Linking.{ArePlaces, entry_of, blocks_in, block_of, save_of, linking_of}
+use Rattle.im_link_laws.specs.Linking.{ArePlaces, entry_of, blocks_in, lead_in, block_of, save_of, linking_of}
 use Rattle.im_link_laws.specs.Laws.{HasObjects}
 use Rattle.im_link_laws.proofs.Standing.{climb, climb_is, stand_get}
 use Rattle.im_link_laws.proofs.Runtimes.{label_place, code_stands}
@@ -53,15 +54,16 @@ below a b h = grind (arith, nat_tests)
 pub entry_in : (functions : List Function) (i : ℕ) → i < length functions → entry_of functions i ≡ entry_label i
 entry_in functions i h = ap (λ b. if b then entry_label i else stack_label) (below i (length functions) h)
 
-block_in : (functions : List Function) (i b : ℕ) (f : Function) → slice_get functions i ≡ Some f → b < length f.blocks.items → block_of functions i b ≡ first_label functions i + b
+block_in : (functions : List Function) (i b : ℕ) (f : Function) → slice_get functions i ≡ Some f → b < length f.blocks.items → block_of functions i b ≡ first_label functions i + lead f.blocks.items f.entry b
 block_in functions i b f e h =
     let n : blocks_in (slice_get functions i) ≡ length f.blocks.items = ap blocks_in e in
-    ap (λ t. if t then first_label functions i + b else entry_of functions i) (below b (blocks_in (slice_get functions i)) (omega arith))
+    ap (λ t. if t then first_label functions i + lead_in (slice_get functions i) b else entry_of functions i) (below b (blocks_in (slice_get functions i)) (omega arith))
+    ∙ ap (λ o. first_label functions i + lead_in o b) e
 
 -- the labels of function i's lines, read for the whole program
 abbrev pub lines_at : List Function → ℕ → List CodeLine → (Name → ℕ) → Lines
 lines_at functions i code at =
-    record { lines = code; at = at; block = block_of functions i; entry = entry_of functions; full = stack_label; checkpoint = save_of; puts = putchar_label; gets = getchar_label }
+    record { lines = code; at = at; block = block_of functions i; entry = entry_of functions; full = stack_label; checkpoint = save_of; serves = service_label }
 
 object_there : (f : Function) (n : ℕ) → HasObject f n → (sh : Shape) × (shapes_of f (Named n) ≡ Some sh)
 object_there f n h =
@@ -91,8 +93,7 @@ agrees u statics layouts parts program p g objects i f e =
       entries = λ j h. entry_in u.functions.items j h;
       checkpoint = λ m o. ap (λ b. if b then m else stack_label) (below m 32 o.1);
       full = refl;
-      puts = refl;
-      gets = refl;
+      serves = λ service. refl;
     }
 
 -- ---- the lines that blocks begin with matter for blocks that are there alone
@@ -167,12 +168,11 @@ function_at u statics layouts parts program linked place image g at size linkabl
       entry = λ n. refl;
       full = refl;
       checkpoint = λ m. refl;
-      puts = refl;
-      gets = refl;
+      serves = λ service. refl;
     } in
     lines p g i f w place starts framed selected laid
   where
-    start_at : (b : ℕ) (t : Bool) → nat_lt b (blocks_in (slice_get u.functions.items i)) ≡ t → place (if t then first_label u.functions.items i + b else entry_of u.functions.items i) ≡ spot_of (place (entry_of u.functions.items i)) (if t then (program.functions i f e).selection.starts b else 0)
+    start_at : (b : ℕ) (t : Bool) → nat_lt b (blocks_in (slice_get u.functions.items i)) ≡ t → place (if t then first_label u.functions.items i + lead_in (slice_get u.functions.items i) b else entry_of u.functions.items i) ≡ spot_of (place (entry_of u.functions.items i)) (if t then (program.functions i f e).selection.starts b else 0)
     start_at b true t =
         let fs : List Function = u.functions.items in
         let part = program.functions i f e in
@@ -180,5 +180,6 @@ function_at u statics layouts parts program linked place image g at size linkabl
         let h : b < length f.blocks.items = (let q : b < blocks_in (slice_get fs i) = grind (arith, nat_tests) in omega arith) in
         let base : place (entry_of fs i) ≡ address (first_of parts (part_of i)) = ap place (entry_in fs i (slice_get_within fs i f e)) ∙ label_place parts place (part_of i) 0 (entry_label i) part.code places part.there part.selection.entry ∙ (omega arith) in
         let c = spot_is (place (entry_of fs i)) (part.selection.starts b) in
-        label_place parts place (part_of i) (part.selection.starts b) (first_label fs i + b) part.code places part.there (part.selection.blocks b h) ∙ (omega arith)
+        ap (λ o. place (first_label fs i + lead_in o b)) e
+        ∙ label_place parts place (part_of i) (part.selection.starts b) (first_label fs i + lead f.blocks.items f.entry b) part.code places part.there (part.selection.blocks b h) ∙ (omega arith)
     start_at b false t = refl

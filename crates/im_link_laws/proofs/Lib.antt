@@ -1,4 +1,5 @@
 pub mod Standing
+pub mod Services
 pub mod Runtimes
 pub mod Functions
 pub mod Whole

@@ -18,15 +18,17 @@ use Rattle.im_link.specs.Code.{IsLinkable, IsLinked}
 use Rattle.im_link.proofs.Joining.{line_in, first_more}
 use Rattle.im_ckpt.specs.Recovery.{recovery}
 use Rattle.im_ckpt.specs.Checkpoint.{checkpoint_start, checkpoint_code, entry_code, entries, ladder}
-use Rattle.im_rtlib.specs.Routines.{getchar, putchar, exit, stack, getchar_label, putchar_label, exit_label, stack_label}
+use Rattle.im_rtlib.specs.Routines.{routine, exit, stack, service_label, exit_label, stack_label}
+use Rattle.im_serve.specs.declared.service.Service.{Service}
 use Rattle.im_rtlib_laws.specs.Standing.{aimed_at, StandFrom, HasRoutines}
 use Rattle.im_block.specs.declared.unit.Unit.{Unit as Code}
 use Rattle.im_select.specs.Selects.{HasLabel}
 use Rattle.im_select.proofs.Plain.{label_left, label_right}
 use Rattle.im_frame.specs.declared.layout.Layout.{Layout}
-use Rattle.im_link_laws.specs.Program.{HasCode, IsProgram, part_of, start_code}
+use Rattle.im_link_laws.specs.Program.{HasCode, IsProgram, routine_part, part_of, start_code}
 use Rattle.im_link_laws.specs.Linking.{ArePlaces}
 use Rattle.im_link_laws.proofs.Standing.{behind, stand}
+use Rattle.im_link_laws.proofs.Services.{routine_there, routine_begins}
 
 -- ---- parts
 
@@ -96,6 +98,14 @@ entry_there (suc n) j m h e = by (nat_lt j n) refl (λ l. entry_there n j m l e)
 pub saved_there : (m : ℕ) → 4 ≤ m → m ≤ 31 → HasLabel checkpoint_code (5 * (m - 4)) m
 saved_there m low high = label_left (entries 28) (map plain_line ladder) (5 * (m - 4)) m (entry_there 28 (m - 4) m (omega arith) (omega arith))
 
+-- ---- the routine of a service
+
+routine_stands : (u : Code) (statics : List ℕ) (layouts : List Layout) (parts : List Part) (linked : Linked) (place : ℕ → ℕ) (image : Mem) → IsProgram u statics layouts parts → IsLinkable parts → IsLinked parts linked → ArePlaces parts place → Stands image 4096 linked.words.items → (service : Service) → StandFrom image place (place (service_label service)) (routine service)
+routine_stands u statics layouts parts linked place image program a b places s service =
+    let there = routine_there u statics layouts parts program service in
+    let at : place (service_label service) ≡ address (first_of parts (routine_part service)) = label_place parts place (routine_part service) 0 (service_label service) (routine service) places there (routine_begins service) ∙ omega arith in
+    subst (λ z. StandFrom image place z (routine service)) (sym at) (code_stands image parts linked place a b places s (routine_part service) (routine service) there)
+
 -- ---- all of them
 
 first_zero : (parts : List Part) → first_of parts 0 ≡ 0
@@ -107,15 +117,12 @@ routines u statics layouts parts linked place image program a b places s small =
     let ckpt = code_stands image parts linked place a b places s 1 checkpoint_code program.saves in
     let at_ckpt : address (first_of parts 1) ≡ checkpoint_start = ap address recovered in
     let start : StandFrom image place (address (first_of parts (part_of (length u.functions.items)))) (start_code u.main) = code_stands image parts linked place a b places s (part_of (length u.functions.items)) (start_code u.main) program.begins in
-    let get : place getchar_label ≡ address (first_of parts 2) = label_place parts place 2 0 getchar_label getchar places program.gets (record { line = _; there = refl; is = refl }) ∙ omega arith in
-    let put : place putchar_label ≡ address (first_of parts 3) = label_place parts place 3 0 putchar_label putchar places program.puts (record { line = _; there = refl; is = refl }) ∙ omega arith in
     let stop : place stack_label ≡ address (first_of parts 4) = label_place parts place 4 0 stack_label stack places program.stops (record { line = _; there = refl; is = refl }) ∙ omega arith in
     let leave : place exit_label ≡ address (first_of parts (part_of (length u.functions.items))) + 4 = label_place parts place (part_of (length u.functions.items)) 1 exit_label (start_code u.main) places program.begins (record { line = _; there = refl; is = refl }) ∙ omega arith in
     record {
       checkpoint = words_stand image place checkpoint_start checkpoint_code small unaimed_checkpoint (subst (λ z. StandFrom image place z checkpoint_code) at_ckpt ckpt);
       entries = λ m low high. label_place parts place 1 (5 * (m - 4)) m checkpoint_code places program.saves (saved_there m low high) ∙ (let q = recovered in omega arith);
-      getchar_there = subst (λ z. StandFrom image place z getchar) (sym get) (code_stands image parts linked place a b places s 2 getchar program.gets);
-      putchar_there = subst (λ z. StandFrom image place z putchar) (sym put) (code_stands image parts linked place a b places s 3 putchar program.puts);
+      services_there = routine_stands u statics layouts parts linked place image program a b places s;
       exit_there = subst (λ z. StandFrom image place z exit) (sym leave) start.2;
       stack_there = subst (λ z. StandFrom image place z stack) (sym stop) (code_stands image parts linked place a b places s 4 stack program.stops);
     }

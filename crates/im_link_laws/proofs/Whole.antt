@@ -46,8 +46,7 @@ linked u statics layouts parts program code place image g at size linkable is_li
       words = loaded.words;
       silent = loaded.silent;
       input = loaded.input;
-      puts = serves.puts;
-      gets = serves.gets;
+      serves = λ service m x z call none argument. (let q = serves.serves service m x z call none argument in (q.done, q.answer));
       saves = λ m h. subst (λ z. SavesAt (runtime p g) (place z)) (sym (saved m h.1)) (serves.saves m h.0 (let q = h.1 in omega arith));
       call = distance code.entry (place (entry_label u.main));
       lands = lands_at code.entry (place (entry_label u.main)) low (places.small (entry_label u.main)) ∙ ap place (sym (entry_in fs u.main program.main));

@@ -6,9 +6,10 @@ use Rattle.im_rv.specs.declared.code.Code.{Code as Linked}
 use Rattle.im_rv.specs.Code.{address}
 use Rattle.im_link.specs.Parts.{lines_of}
 use Rattle.im_link.specs.Links.{StandsAt}
-use Rattle.im_rtlib.specs.Routines.{getchar_label, putchar_label, stack_label}
+use Rattle.im_rtlib.specs.Routines.{service_label, stack_label}
 use Rattle.im_store.specs.Objects.{Name}
 use Rattle.im_block.specs.declared.unit.Function.{Function}
+use Rattle.im_select.specs.Leads.{lead}
 use Rattle.im_select_relation.specs.Linking.{Linking}
 use Rattle.im_select.specs.Emitted.{entry_label}
 use Rattle.im_link_laws.specs.Program.{first_label}
@@ -26,8 +27,13 @@ abbrev pub blocks_in : Option Function → ℕ
 blocks_in None = 0
 blocks_in (Some f) = length f.blocks.items
 
+-- the block where block b leads
+abbrev pub lead_in : Option Function → ℕ → ℕ
+lead_in None b = b
+lead_in (Some f) b = lead f.blocks.items f.entry b
+
 abbrev pub block_of : List Function → ℕ → ℕ → ℕ
-block_of functions i b = if nat_lt b (blocks_in (slice_get functions i)) then first_label functions i + b else entry_of functions i
+block_of functions i b = if nat_lt b (blocks_in (slice_get functions i)) then first_label functions i + lead_in (slice_get functions i) b else entry_of functions i
 
 abbrev pub save_of : ℕ → ℕ
 save_of m = if nat_lt m 32 then m else stack_label
@@ -42,8 +48,7 @@ linking_of functions place code image at size =
       place = λ i b. place (block_of functions i b);
       begin = code.entry;
       full = place stack_label;
-      puts = place putchar_label;
-      gets = place getchar_label;
+      serves = λ service. place (service_label service);
       checkpoint = λ m. place (save_of m);
       longest = 71;
       flips = 3;

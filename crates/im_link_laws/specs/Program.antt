@@ -6,6 +6,8 @@ use Rattle.im_link.specs.Parts.{IsPart}
 use Rattle.im_ckpt.specs.Recovery.{recovery}
 use Rattle.im_ckpt.specs.Checkpoint.{checkpoint_code}
 use Rattle.im_rtlib.specs.Routines.{aimed, getchar, putchar, stack, exit}
+use Rattle.im_serve.specs.declared.service.Service.{Service}
+use Rattle.im_serve.specs.declared.service.Service.TheVariants.{Getchar, Putchar}
 use Rattle.im_rv_reach.specs.Instructions.{jumping}
 use Rattle.im_block.specs.declared.unit.Function.{Function}
 use Rattle.im_block.specs.declared.unit.Unit.{Unit as Code}
@@ -20,6 +22,11 @@ pub record HasCode (parts : List Part) (p : ℕ) (code : List CodeLine) : Type 0
   pub part : Part
   pub is_part : IsPart parts p part
   pub lines : code_lines part.lines.items ≡ code
+
+-- the number of the part that the routine of a service is
+abbrev pub routine_part : Service → ℕ
+routine_part Getchar = 2
+routine_part Putchar = 3
 
 -- the number of the part that a function is
 abbrev pub part_of : ℕ → ℕ

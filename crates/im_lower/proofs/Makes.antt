@@ -1,5 +1,5 @@
 -- What an expression puts, from what its parts put in turn: a step for each call of the code.
-use Rattle.std.proofs.Common.{◌≡◌, ◌⊎◌, inl, inr, ℕ, ◌+◌, Bool, List, length, ap, sym, ◌∙◌, Box, Global}
+use Rattle.std.proofs.Common.{◌≡◌, ◌⊎◌, inl, inr, ℕ, ◌+◌, Bool, List, length, refl, ap, sym, ◌∙◌, Box, Global}
 use Rattle.im_num.specs.declared.kind.Kind.{Kind}
 use Rattle.im_ctype.specs.declared.cell.Cell.{Cell}
 use Rattle.im_ctype.specs.Layout.{layouts, layout_at}
@@ -16,15 +16,15 @@ use Rattle.im_typed.specs.ProgramOf.{access_of, expr_of, place_of}
 use Rattle.im_block.specs.declared.code.Exit.TheVariants.{Jump, Branch}
 use Rattle.im_block.specs.declared.code.Place.{Place}
 use Rattle.im_lower_plain.specs.Made.{Made, close, start}
-use Rattle.im_lower_plain.specs.Make.{behind, make, make_place, place_at, put_copy, put_increment, put_operator}
+use Rattle.im_lower_plain.specs.Make.{behind, make, make_place, make_test, place_at, put_copy, put_increment, put_operator}
 
 module _ (g : p.Prog) (first : ℕ) where
-  pub choice_made : (q a b : p.Expr) (to free above join fails holds : ℕ) (m m₁ m₂ m₃ m₄ m₅ m₆ m₇ : Made)
-      → above ≡ free + 1 → join ≡ length m.blocks → m₁ ≡ close m → m₂ ≡ make g first b to free m₁
+  pub choice_made : (q a b : p.Expr) (to free join fails holds : ℕ) (m m₁ m₂ m₃ m₄ m₅ m₆ : Made)
+      → join ≡ length m.blocks → m₁ ≡ close m → m₂ ≡ make g first b to free m₁
       → fails ≡ length m₂.blocks → m₃ ≡ close m₂ → m₄ ≡ start (Jump join) m₃ → m₅ ≡ make g first a to free m₄
-      → holds ≡ length m₅.blocks → m₆ ≡ close m₅ → m₇ ≡ start (Branch free holds fails) m₆
-      → make g first q free above m₇ ≡ make g first (p.Choose q a b) to free m
-  choice_made q a b to free above join fails holds m m₁ m₂ m₃ m₄ m₅ m₆ m₇ is_above is_join is₁ is₂ is_fails is₃ is₄ is₅ is_holds is₆ is₇ =
+      → holds ≡ length m₅.blocks → m₆ ≡ close m₅
+      → make_test g first q free holds fails m₆ ≡ make g first (p.Choose q a b) to free m
+  choice_made q a b to free join fails holds m m₁ m₂ m₃ m₄ m₅ m₆ is_join is₁ is₂ is_fails is₃ is₄ is₅ is_holds is₆ =
       let other : Made = make g first b to free (close m) in
       let one : Made = make g first a to free (start (Jump (length m.blocks)) (close other)) in
       let to_other : m₂ ≡ other = is₂ ∙ ap (make g first b to free) is₁ in
@@ -33,10 +33,51 @@ module _ (g : p.Prog) (first : ℕ) where
       let to_one : m₅ ≡ one = is₅ ∙ ap (make g first a to free) joined in
       let to_holds : holds ≡ length one.blocks = is_holds ∙ ap (λ (x : Made). length x.blocks) to_one in
       let to_fails : fails ≡ length other.blocks = is_fails ∙ ap (λ (x : Made). length x.blocks) to_other in
-      let branched : m₇ ≡ start (Branch free (length one.blocks) (length other.blocks)) (close one) =
-      is₇ ∙ ap (λ h. start (Branch free h fails) m₆) to_holds ∙ ap (λ f. start (Branch free (length one.blocks) f) m₆) to_fails
-      ∙ ap (start (Branch free (length one.blocks) (length other.blocks))) (is₆ ∙ ap close to_one) in
-      ap (λ n. make g first q free n m₇) is_above ∙ ap (make g first q free (free + 1)) branched
+      ap (λ h. make_test g first q free h fails m₆) to_holds ∙ ap (λ f. make_test g first q free (length one.blocks) f m₆) to_fails
+      ∙ ap (make_test g first q free (length one.blocks) (length other.blocks)) (is₆ ∙ ap close to_one)
+
+  -- two tests, the second of which begins a block
+  second_made : (b : p.Expr) (free holds fails x y : ℕ) (n m₁ m₂ : Made) → x ≡ holds → y ≡ fails → m₁ ≡ n
+      → m₂ ≡ make_test g first b free x y m₁ → m₂ ≡ make_test g first b free holds fails n
+  second_made b free holds fails x y n m₁ m₂ is_x is_y is₁ is₂ =
+      is₂ ∙ ap (λ h. make_test g first b free h y m₁) is_x ∙ ap (λ f. make_test g first b free holds f m₁) is_y
+      ∙ ap (make_test g first b free holds fails) is₁
+
+  pub and_made : (a b : p.Expr) (free holds fails x y k : ℕ) (n m₁ m₂ m₃ : Made) → x ≡ holds → y ≡ fails → m₁ ≡ n
+      → m₂ ≡ make_test g first b free x y m₁ → k ≡ length m₂.blocks → m₃ ≡ close m₂
+      → make_test g first a free k y m₃
+      ≡ make_test g first a free (length (make_test g first b free holds fails n).blocks) fails (close (make_test g first b free holds fails n))
+  and_made a b free holds fails x y k n m₁ m₂ m₃ is_x is_y is₁ is₂ is_k is₃ =
+      let rest : m₂ ≡ make_test g first b free holds fails n = second_made b free holds fails x y n m₁ m₂ is_x is_y is₁ is₂ in
+      let more = length (make_test g first b free holds fails n).blocks in
+      ap (λ h. make_test g first a free h y m₃) (is_k ∙ ap (λ (z : Made). length z.blocks) rest)
+      ∙ ap (λ f. make_test g first a free more f m₃) is_y ∙ ap (make_test g first a free more fails) (is₃ ∙ ap close rest)
+
+  pub or_made : (a b : p.Expr) (free holds fails x y k : ℕ) (n m₁ m₂ m₃ : Made) → x ≡ holds → y ≡ fails → m₁ ≡ n
+      → m₂ ≡ make_test g first b free x y m₁ → k ≡ length m₂.blocks → m₃ ≡ close m₂
+      → make_test g first a free x k m₃
+      ≡ make_test g first a free holds (length (make_test g first b free holds fails n).blocks) (close (make_test g first b free holds fails n))
+  or_made a b free holds fails x y k n m₁ m₂ m₃ is_x is_y is₁ is₂ is_k is₃ =
+      let rest : m₂ ≡ make_test g first b free holds fails n = second_made b free holds fails x y n m₁ m₂ is_x is_y is₁ is₂ in
+      let more = length (make_test g first b free holds fails n).blocks in
+      ap (λ h. make_test g first a free h k m₃) is_x
+      ∙ ap (λ f. make_test g first a free holds f m₃) (is_k ∙ ap (λ (z : Made). length z.blocks) rest)
+      ∙ ap (make_test g first a free holds more) (is₃ ∙ ap close rest)
+
+  -- a test that is a value, behind which a branch stands
+  pub value_decides : (types : Table) (e : re.Expr) (free holds fails : ℕ) (m : Made)
+      → ((a : Box re.Expr Global) → e ≡ re.Not a → ⊥)
+      → ((a b : Box re.Expr Global) → e ≡ re.And a b → ⊥)
+      → ((a b : Box re.Expr Global) → e ≡ re.Or a b → ⊥)
+      → make g first (expr_of types e) free (free + 1) (start (Branch free holds fails) m)
+      ≡ make_test g first (expr_of types e) free holds fails m
+  value_decides types (re.Not' b x) free holds fails m other one more =
+      absurd (other (record { ptr = b.ptr; alloc = b.alloc; value = x }) refl)
+  value_decides types (re.And' b x c y) free holds fails m other one more =
+      absurd (one (record { ptr = b.ptr; alloc = b.alloc; value = x }) (record { ptr = c.ptr; alloc = c.alloc; value = y }) refl)
+  value_decides types (re.Or' b x c y) free holds fails m other one more =
+      absurd (more (record { ptr = b.ptr; alloc = b.alloc; value = x }) (record { ptr = c.ptr; alloc = c.alloc; value = y }) refl)
+  value_decides types e free holds fails m other one more = refl
 
   pub increment_made : (a : p.Place) (change : Change) (old : Bool) (to free beside : ℕ) (at : Place) (m m₁ : Made)
       → at ≡ place_at first a free → beside ≡ behind a free → m₁ ≡ put_increment change old to beside at m

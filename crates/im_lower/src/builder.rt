@@ -29,6 +29,13 @@ pub(crate) struct Finished {
     pub(crate) registers: u32,
 }
 
+/// The numbers of the blocks where a test goes on, if it holds and if it doesn't.
+#[derive(Clone, Copy)]
+pub(crate) struct Targets {
+    pub(crate) holds: u32,
+    pub(crate) fails: u32,
+}
+
 impl std::marker::Model for Builder {
     ghost use Rattle.im_lower_plain.specs.Made.{Made};
 

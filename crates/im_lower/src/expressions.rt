@@ -1,11 +1,11 @@
 ghost use Rattle.std.specs.Prelude.{◌≡◌, ◌+◌, IfOk, OnOk};
 ghost use Rattle.im_typed.specs.ProgramOf.{access_of, expr_of, place_of, program_of};
-ghost use Rattle.im_lower_plain.specs.Make.{make, make_place, part_offset};
+ghost use Rattle.im_lower_plain.specs.Make.{make, make_place, make_test, part_offset};
 ghost use Rattle.im_lower.specs.MakeEach.{make_each};
 
-use crate::builder::{Builder, next};
+use crate::builder::{Builder, Targets, next};
 use crate::lines::{put_change, put_copy, put_increment, put_load, register_at, small};
-use crate::operators::{put_known, put_operator};
+use crate::operators::{put_operator, put_truths};
 use crate::places::{behind, changed_kind, place_at, shape_of};
 use im_block::{Exit, Line};
 use im_ctype::cells_of_struct;
@@ -114,26 +114,16 @@ pub(crate) fn lower_expression(
             lower_place(code, place, free, prog, first)
         }
         Expr::And(left, right) => {
-            let fails = put_known(code, 0, to, free)?;
-            lower_expression(code, right, free, above, prog, first)?;
+            let truths = put_truths(code, to)?;
+            lower_test(code, right, free, truths, prog, first)?;
             let holds = code.close()?;
-            code.start(Exit::Branch {
-                on: free,
-                holds,
-                fails,
-            })?;
-            lower_expression(code, left, free, above, prog, first)
+            lower_test(code, left, free, Targets { holds, ..truths }, prog, first)
         }
         Expr::Or(left, right) => {
-            let holds = put_known(code, 1, to, free)?;
-            lower_expression(code, right, free, above, prog, first)?;
+            let truths = put_truths(code, to)?;
+            lower_test(code, right, free, truths, prog, first)?;
             let fails = code.close()?;
-            code.start(Exit::Branch {
-                on: free,
-                holds,
-                fails,
-            })?;
-            lower_expression(code, left, free, above, prog, first)
+            lower_test(code, left, free, Targets { fails, ..truths }, prog, first)
         }
         Expr::Choose(test, one, other) => {
             let join = code.close()?;
@@ -142,12 +132,7 @@ pub(crate) fn lower_expression(
             code.start(Exit::Jump(join))?;
             lower_expression(code, one, to, free, prog, first)?;
             let holds = code.close()?;
-            code.start(Exit::Branch {
-                on: free,
-                holds,
-                fails,
-            })?;
-            lower_expression(code, test, free, above, prog, first)
+            lower_test(code, test, free, Targets { holds, fails }, prog, first)
         }
         Expr::Comma(left, right) => {
             lower_expression(code, right, to, free, prog, first)?;
@@ -206,6 +191,49 @@ pub(crate) fn lower_expression(
                 count: small(arguments.len() as u64)?,
             })?;
             lower_arguments(code, arguments, free, prog, first)
+        }
+    }
+}
+
+/// Puts the code of a test, which goes on at one of two blocks. `!`, `&&` and `||` are control flow;
+/// anything else is a value and a branch.
+#[cycle(expressions)]
+pub(crate) fn lower_test(
+    code: &mut Builder,
+    test: &Expr,
+    free: u32,
+    targets: Targets,
+    prog: &Prog,
+    first: u32,
+) -> Result<(), NoMemory>
+    ensures { OnOk result (code.new ≡ make_test (program_of prog.now) first
+        (expr_of prog.now.types test.now) free targets.holds targets.fails code.old) }
+{
+    match test {
+        Expr::Not(operand) => {
+            let turned = Targets {
+                holds: targets.fails,
+                fails: targets.holds,
+            };
+            lower_test(code, operand, free, turned, prog, first)
+        }
+        Expr::And(left, right) => {
+            lower_test(code, right, free, targets, prog, first)?;
+            let holds = code.close()?;
+            lower_test(code, left, free, Targets { holds, ..targets }, prog, first)
+        }
+        Expr::Or(left, right) => {
+            lower_test(code, right, free, targets, prog, first)?;
+            let fails = code.close()?;
+            lower_test(code, left, free, Targets { fails, ..targets }, prog, first)
+        }
+        _ => {
+            code.start(Exit::Branch {
+                on: free,
+                holds: targets.holds,
+                fails: targets.fails,
+            })?;
+            lower_expression(code, test, free, next(free)?, prog, first)
         }
     }
 }

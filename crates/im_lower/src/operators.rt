@@ -1,9 +1,10 @@
 ghost use Rattle.std.specs.Prelude.{◌≡◌, IfOk, OnOk, length};
 ghost use Rattle.im_ctype.specs.Table.{Table};
 ghost use Rattle.im_typed.specs.ProgramOf.{expr_of};
-ghost use Rattle.im_lower_plain.specs.Make.{known_made, put_known, put_operator};
+ghost use Rattle.im_lower_plain.specs.Made.{close};
+ghost use Rattle.im_lower_plain.specs.Make.{fails_made, holds_made, put_operator};
 
-use crate::builder::{Builder, next};
+use crate::builder::{Builder, Targets, next};
 use im_block::{Exit, Line};
 use im_num::NoMemory;
 use im_typed::Expr;
@@ -90,25 +91,18 @@ pub(crate) fn put_operator(
     }
 }
 
-/// Puts what `&&` and `||` have behind their right operand: its truth, and the block of the value
-/// that is known without it. Gives that block's number.
-pub(crate) fn put_known(
-    code: &mut Builder,
-    number: i128,
-    to: u32,
-    free: u32,
-) -> Result<u32, NoMemory>
-    ensures known { IfOk result (λ n. n ≡ length (known_made number to code.old).blocks) }
-    ensures made { OnOk result (code.new ≡ put_known number to free code.old) }
+/// Puts the two blocks of a truth value. Each puts it into the register `to`, and goes on at what
+/// was open; what is open then is a jump to that of 1.
+pub(crate) fn put_truths(code: &mut Builder, to: u32) -> Result<Targets, NoMemory>
+    ensures holds { IfOk result (λ truths. truths.holds ≡ length (holds_made to code.old).blocks) }
+    ensures fails { IfOk result (λ truths. truths.fails ≡ length (fails_made to code.old).blocks) }
+    ensures made { OnOk result (code.new ≡ close (holds_made to code.old)) }
 {
     let join = code.close()?;
-    code.put(Line::Put { to, number })?;
-    let known = code.close()?;
+    code.put(Line::Put { to, number: 0 })?;
+    let fails = code.close()?;
     code.start(Exit::Jump(join))?;
-    code.put(Line::Not { to, from: free })?;
-    code.put(Line::Not {
-        to: free,
-        from: free,
-    })?;
-    Ok(known)
+    code.put(Line::Put { to, number: 1 })?;
+    let holds = code.close()?;
+    Ok(Targets { holds, fails })
 }

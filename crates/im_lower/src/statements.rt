@@ -5,8 +5,8 @@ ghost use Rattle.im_lower_plain.specs.Made.{close};
 ghost use Rattle.im_lower_plain.specs.MakeStatement.{make_return, make_statement, test_made};
 ghost use Rattle.im_lower.specs.MakeEach.{make_in_order, make_marked, marks_of};
 
-use crate::builder::Builder;
-use crate::expressions::{Base, lower_value};
+use crate::builder::{Builder, Targets};
+use crate::expressions::{Base, lower_test, lower_value};
 use crate::initialise::lower_initialiser;
 use crate::places::shape_of;
 use crate::switch::{kind_in, put_cases};
@@ -45,16 +45,18 @@ pub(crate) fn lower_statement(
             code.start(Exit::Jump(join))?;
             lower_statement(code, one, breaks, continues, objects, prog, base)?;
             let holds = code.close()?;
-            code.start(Exit::Branch {
-                on: base.low,
-                holds,
-                fails,
-            })?;
-            lower_value(code, test, prog, base)
+            lower_test(
+                code,
+                test,
+                base.low,
+                Targets { holds, fails },
+                prog,
+                base.first,
+            )
         }
         Stmt::While(test, body) => {
             let join = code.close()?;
-            let edge = lower_test(code, test, join, prog, base)?;
+            let edge = lower_loop_test(code, test, join, prog, base)?;
             let check = code.close()?;
             lower_statement(code, body, join, check, objects, prog, base)?;
             let entry = code.close()?;
@@ -63,7 +65,7 @@ pub(crate) fn lower_statement(
         }
         Stmt::DoWhile(body, test) => {
             let join = code.close()?;
-            let edge = lower_test(code, test, join, prog, base)?;
+            let edge = lower_loop_test(code, test, join, prog, base)?;
             let check = code.close()?;
             lower_statement(code, body, join, check, objects, prog, base)?;
             let entry = code.close()?;
@@ -77,7 +79,7 @@ pub(crate) fn lower_statement(
             body,
         } => {
             let join = code.close()?;
-            let edge = lower_test(code, test, join, prog, base)?;
+            let edge = lower_loop_test(code, test, join, prog, base)?;
             let check = code.close()?;
             lower_value(code, step, prog, base)?;
             let next = code.close()?;
@@ -172,7 +174,7 @@ fn lower_marked(
 
 /// Puts a loop's test, which goes to the loop edge or behind the loop. Gives the number of the
 /// loop edge's block, whose target is to be set.
-fn lower_test(
+fn lower_loop_test(
     code: &mut Builder,
     test: &Expr,
     join: u32,
@@ -185,12 +187,11 @@ fn lower_test(
 {
     code.start(Exit::Turn(0))?;
     let edge = code.close()?;
-    code.start(Exit::Branch {
-        on: base.low,
+    let targets = Targets {
         holds: edge,
         fails: join,
-    })?;
-    lower_value(code, test, prog, base)?;
+    };
+    lower_test(code, test, base.low, targets, prog, base.first)?;
     Ok(edge)
 }
 

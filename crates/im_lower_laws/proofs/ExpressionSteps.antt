@@ -1,6 +1,6 @@
 -- What the code of an expression adds: at most 64 words for each node, and registers up to as many as it has nodes.
 use Rattle.std.proofs.Common.{◌≡◌, ◌≢◌, ◌⊎◌, inl, inr, ℕ, zero, suc, ◌+◌, ◌*◌, ◌^◌, ◌<◌, ◌≤◌, false, List, [], ◌∷◌, length, take, refl, ap, sym, ◌∙◌, subst, arith}
-use Rattle.std.specs.Prelude.{Option, Some, None, slice_get, ℤ, pos}
+use Rattle.std.specs.Prelude.{Option, Some, None, slice_get, pos}
 use Rattle.std.proofs.lemmas.List.{length-take}
 use Rattle.im_num.specs.declared.kind.Kind.{Kind}
 use Rattle.im_num.specs.declared.kind.Kind.TheVariants.{I8, U8, I16, U16, I32, U32, Ptr}
@@ -22,9 +22,9 @@ use Rattle.im_block.specs.declared.code.Exit.TheVariants.{Jump, Branch}
 use Rattle.im_lower_relation.specs.Codes.{further_in, cells_of_shape, offset_in, count_of}
 use Rattle.im_lower_relation.specs.Lowered.{HasParameters}
 use Rattle.im_lower_plain.specs.Made.{Made, put, close, start}
-use Rattle.im_lower_plain.specs.Make.{place_at, behind, part_offset, known_made, put_known, make_place, make, make_arguments}
-use Rattle.im_lower_plain.proofs.Growth.{Grows, stays, grows_start, close_length}
-use Rattle.im_lower_plain.proofs.Grown.{grows}
+use Rattle.im_lower_plain.specs.Make.{place_at, behind, part_offset, fails_made, holds_made, make_place, make, make_arguments, make_test}
+use Rattle.im_lower_plain.proofs.Growth.{stays, grows_start, close_length}
+use Rattle.im_lower_plain.proofs.Grown.{grows, decision_grows}
 use Rattle.im_lower_laws.proofs.Steps.{Step, at_most, step_close, step_start}
 use Rattle.im_lower_laws.proofs.LineSteps.{Good_register, GoodPlace, GoodChange, place_offset, further_good, through_good, adds_put, adds_null, adds_service, adds_convert, adds_unary, adds_not, adds_service_of, adds_compute, adds_compare, adds_move, adds_distance, adds_address, adds_call, adds_read, adds_write, adds_load, adds_reads, adds_writes, adds_change, adds_increment}
 
@@ -285,28 +285,62 @@ module _ (g : p.Prog) (f : p.Func) (code : Function) (first low limit : ℕ) (pr
       left (c + 64 * expr_nodes b) t m (make g first b (free + 1) (free + 1 + 1) n) free (free + 1) from (omega arith) (omega arith) (omega arith)
       (right c t m n (free + 1) (free + 1 + 1) (omega arith) (omega arith) (omega arith) (omega arith) h)
 
-  record Known (z : ℤ) (to free : ℕ) (n : Made) : Type 0 where
-    length_is : length (put_known z to free n).blocks ≡ length (known_made z to n).blocks + 1
+  -- the blocks of a truth value
 
-  known_length : (z : ℤ) (to : ℕ) (n : Made) → length (known_made z to n).blocks ≡ length n.blocks + 1
+  fails_length : (to : ℕ) (n : Made) → length (fails_made to n).blocks ≡ length n.blocks + 1
   unfolding put
-  known_length z to n = close_length n
+  fails_length to n = close_length n
 
-  put_known_length : (z : ℤ) (to free : ℕ) (n : Made) → length (put_known z to free n).blocks ≡ length (known_made z to n).blocks + 1
+  holds_length : (to : ℕ) (n : Made) → length (holds_made to n).blocks ≡ length n.blocks + 2
   unfolding put start
-  put_known_length z to free n = close_length (known_made z to n)
+  holds_length to n =
+      let one = fails_length to n in
+      let other = close_length (fails_made to n) in
+      omega arith
 
-  adds_known : (c t : ℕ) (m n : Made) (z : ℤ) (to free : ℕ) → low ≤ to → low ≤ free → to + 1 ≤ limit → free + 1 ≤ limit → Step g code low limit c t m n → Step g code low limit (c + 31) t m (put_known z to free n)
-  adds_known c t m n z to free lt lf t1 f1 h =
+  adds_truths : (c t : ℕ) (m n : Made) (to : ℕ) → low ≤ to → to + 1 ≤ limit → Step g code low limit c t m n → Step g code low limit (c + 20) t m (close (holds_made to n))
+  adds_truths c t m n to lt t1 h =
       let r = register to lt t1 in
-      let s = register free lf f1 in
-      let known = known_made z to n in
-      let known_is = known_length z to n in
-      let closed_is = close_length known in
-      at_most g code low limit (c + 31) t (omega arith) (omega arith)
-      (adds_not g code low limit free free s s (adds_not g code low limit to free r s
+      let fails_is = fails_length to n in
+      let closed_is = close_length (fails_made to n) in
+      at_most g code low limit (c + 20) t (omega arith) (omega arith)
+      (step_close g code low limit (adds_put g code low limit to (pos 1) r
       (step_start g code low limit (Jump (length n.blocks)) 0 0 (omega arith) (omega arith) tt (omega arith) (omega arith) (omega arith)
-      (step_close g code low limit (adds_put g code low limit to z r (step_close g code low limit h))))))
+      (step_close g code low limit (adds_put g code low limit to (pos 0) r (step_close g code low limit h))))))
+
+  -- a test, whose value is in the register free
+  abbrev AddsTest : p.Expr → Type 0
+  AddsTest e =
+      (c t : ℕ) (m n : Made) (free holds fails : ℕ) → low ≤ free → free + 1 + expr_nodes e ≤ limit → holds < length n.blocks → fails < length n.blocks
+      → Step g code low limit c t m n → Step g code low limit (c + 6 + 64 * expr_nodes e) t m (make_test g first e free holds fails n)
+
+  value_decides : (e : p.Expr) → Adds e → (c t : ℕ) (m n : Made) (free holds fails : ℕ) → low ≤ free → free + 1 + expr_nodes e ≤ limit → holds < length n.blocks → fails < length n.blocks
+      → Step g code low limit c t m n → Step g code low limit (c + 6 + 64 * expr_nodes e) t m (make g first e free (free + 1) (start (Branch free holds fails) n))
+  value_decides e value c t m n free holds fails lf le here there h =
+      at_most g code low limit (c + 6 + 64 * expr_nodes e) t (omega arith) (omega arith)
+      (value (c + 6) (t + 0) m _ free (free + 1) lf (omega arith) (omega arith) (omega arith)
+      (step_start g code low limit (Branch free holds fails) 6 0 (here, there) (here, there) lf (omega arith) (omega arith) (omega arith) h))
+
+  -- two tests, the second of which begins a block
+  and_adds : (a b : p.Expr) → AddsTest a → AddsTest b → (c t : ℕ) (m n : Made) (free holds fails : ℕ) → low ≤ free → free + (1 + expr_nodes a + expr_nodes b) ≤ limit → holds < length n.blocks → fails < length n.blocks
+      → Step g code low limit c t m n → Step g code low limit (c + 14 + 64 * expr_nodes a + 64 * expr_nodes b) t m (make_test g first a free (length (make_test g first b free holds fails n).blocks) fails (close (make_test g first b free holds fails n)))
+  and_adds a b left right c t m n free holds fails lf le here there h =
+      let rest = make_test g first b free holds fails n in
+      let longer = (decision_grows g first b free holds fails (stays n)).longer in
+      let closed_is = close_length rest in
+      at_most g code low limit (c + 14 + 64 * expr_nodes a + 64 * expr_nodes b) t (omega arith) (omega arith)
+      (left (c + 6 + 64 * expr_nodes b + 2) t m (close rest) free (length rest.blocks) fails lf (omega arith) (omega arith) (omega arith)
+      (step_close g code low limit (right c t m n free holds fails lf (omega arith) here there h)))
+
+  or_adds : (a b : p.Expr) → AddsTest a → AddsTest b → (c t : ℕ) (m n : Made) (free holds fails : ℕ) → low ≤ free → free + (1 + expr_nodes a + expr_nodes b) ≤ limit → holds < length n.blocks → fails < length n.blocks
+      → Step g code low limit c t m n → Step g code low limit (c + 14 + 64 * expr_nodes a + 64 * expr_nodes b) t m (make_test g first a free holds (length (make_test g first b free holds fails n).blocks) (close (make_test g first b free holds fails n)))
+  or_adds a b left right c t m n free holds fails lf le here there h =
+      let rest = make_test g first b free holds fails n in
+      let longer = (decision_grows g first b free holds fails (stays n)).longer in
+      let closed_is = close_length rest in
+      at_most g code low limit (c + 14 + 64 * expr_nodes a + 64 * expr_nodes b) t (omega arith) (omega arith)
+      (left (c + 6 + 64 * expr_nodes b + 2) t m (close rest) free holds (length rest.blocks) lf (omega arith) (omega arith) (omega arith)
+      (step_close g code low limit (right c t m n free holds fails lf (omega arith) here there h)))
 
   mutual
     pub place_adds : (a : p.Place) (c t : ℕ) (m n : Made) (free : ℕ) → IsTypedPlace g f a → low ≤ free → free + place_nodes a ≤ limit → Step g code low limit c t m n → Step g code low limit (c + 64 * place_nodes a) t m (make_place g first a free n)
@@ -379,35 +413,19 @@ module _ (g : p.Prog) (f : p.Func) (code : Function) (first low limit : ℕ) (pr
         (adds a ty.0 (c + 10) t m _ free (free + 1) lf (omega arith) (omega arith) (omega arith)
         (adds_not g code low limit to free (register to lt t1) (register free lf (omega arith)) h))
     adds (p.And a b) ty c t m n to free lt lf t1 le h =
-        let one = nodes_positive a in
-        let other = nodes_positive b in
-        let known = known_made (pos 0) to n in
-        let begun = put_known (pos 0) to free n in
-        let rest = make g first b free (free + 1) begun in
-        let grown : Grows begun rest = grows g first b free (free + 1) (stays begun) in
-        let begun_is = put_known_length (pos 0) to free n in
-        let longer = grown.longer in
-        let closed_is = close_length rest in
+        let fails_is = fails_length to n in
+        let holds_is = holds_length to n in
+        let closed_is = close_length (holds_made to n) in
         at_most g code low limit (c + 64 * (1 + expr_nodes a + expr_nodes b)) t (omega arith) (omega arith)
-        (adds a ty.0 (c + 31 + 64 * expr_nodes b + 2 + 6) (t + 0) m _ free (free + 1) lf (omega arith) (omega arith) (omega arith)
-        (step_start g code low limit (Branch free (length rest.blocks) (length known.blocks)) 6 0 (omega arith, omega arith) (omega arith, omega arith) lf (omega arith) (omega arith) (omega arith)
-        (step_close g code low limit (adds b ty.1 (c + 31) t m begun free (free + 1) lf (omega arith) (omega arith) (omega arith)
-        (adds_known c t m n (pos 0) to free lt lf t1 (omega arith) h)))))
+        (and_adds a b (test_by_adds a ty.0 (adds a ty.0)) (test_by_adds b ty.1 (adds b ty.1)) (c + 20) t m (close (holds_made to n)) free (length (holds_made to n).blocks) (length (fails_made to n).blocks) lf le (omega arith) (omega arith)
+        (adds_truths c t m n to lt t1 h))
     adds (p.Or a b) ty c t m n to free lt lf t1 le h =
-        let one = nodes_positive a in
-        let other = nodes_positive b in
-        let known = known_made (pos 1) to n in
-        let begun = put_known (pos 1) to free n in
-        let rest = make g first b free (free + 1) begun in
-        let grown : Grows begun rest = grows g first b free (free + 1) (stays begun) in
-        let begun_is = put_known_length (pos 1) to free n in
-        let longer = grown.longer in
-        let closed_is = close_length rest in
+        let fails_is = fails_length to n in
+        let holds_is = holds_length to n in
+        let closed_is = close_length (holds_made to n) in
         at_most g code low limit (c + 64 * (1 + expr_nodes a + expr_nodes b)) t (omega arith) (omega arith)
-        (adds a ty.0 (c + 31 + 64 * expr_nodes b + 2 + 6) (t + 0) m _ free (free + 1) lf (omega arith) (omega arith) (omega arith)
-        (step_start g code low limit (Branch free (length known.blocks) (length rest.blocks)) 6 0 (omega arith, omega arith) (omega arith, omega arith) lf (omega arith) (omega arith) (omega arith)
-        (step_close g code low limit (adds b ty.1 (c + 31) t m begun free (free + 1) lf (omega arith) (omega arith) (omega arith)
-        (adds_known c t m n (pos 1) to free lt lf t1 (omega arith) h)))))
+        (or_adds a b (test_by_adds a ty.0 (adds a ty.0)) (test_by_adds b ty.1 (adds b ty.1)) (c + 20) t m (close (holds_made to n)) free (length (holds_made to n).blocks) (length (fails_made to n).blocks) lf le (omega arith) (omega arith)
+        (adds_truths c t m n to lt t1 h))
     adds (p.Choose q a b) ty c t m n to free lt lf t1 le h =
         let joined = close n in
         let other = make g first b to free joined in
@@ -420,11 +438,10 @@ module _ (g : p.Prog) (f : p.Func) (code : Function) (first low limit : ℕ) (pr
         let one_is = close_length one in
         let positive = nodes_positive q in
         at_most g code low limit (c + 64 * (1 + expr_nodes q + expr_nodes a + expr_nodes b)) t (omega arith) (omega arith)
-        (adds q ty.0 (c + 2 + 64 * expr_nodes b + 2 + 0 + 64 * expr_nodes a + 2 + 6) (t + 0 + 0) m _ free (free + 1) lf (omega arith) (omega arith) (omega arith)
-        (step_start g code low limit (Branch free (length one.blocks) (length other.blocks)) 6 0 (omega arith, omega arith) (omega arith, omega arith) lf (omega arith) (omega arith) (omega arith)
+        (test_by_adds q ty.0 (adds q ty.0) (c + 2 + 64 * expr_nodes b + 2 + 0 + 64 * expr_nodes a + 2) (t + 0) m (close one) free (length one.blocks) (length other.blocks) lf (omega arith) (omega arith) (omega arith)
         (step_close g code low limit (adds a ty.1 (c + 2 + 64 * expr_nodes b + 2 + 0) (t + 0) m begun to free lt lf t1 (omega arith)
         (step_start g code low limit (Jump (length n.blocks)) 0 0 (omega arith) (omega arith) tt (omega arith) (omega arith) (omega arith)
-        (step_close g code low limit (adds b ty.2 (c + 2) t m joined to free lt lf t1 (omega arith) (step_close g code low limit h))))))))
+        (step_close g code low limit (adds b ty.2 (c + 2) t m joined to free lt lf t1 (omega arith) (step_close g code low limit h)))))))
     adds (p.Comma a b) ty c t m n to free lt lf t1 le h =
         at_most g code low limit (c + 64 * (1 + expr_nodes a + expr_nodes b)) t (omega arith) (omega arith)
         (adds a ty.0 (c + 64 * expr_nodes b) t m _ free (free + 1) lf (omega arith) (let one = nodes_positive a in omega arith) (let one = nodes_positive b in omega arith)
@@ -503,3 +520,18 @@ module _ (g : p.Prog) (f : p.Func) (code : Function) (first low limit : ℕ) (pr
         at_most g code low limit (c + 64 * (expr_nodes e + exprs_nodes rest)) t (omega arith) (omega arith)
         (adds e ty.0 (c + 64 * exprs_nodes rest) t m _ free (free + 1) lf (omega arith) (omega arith) (omega arith)
         (arguments_add os rest ty.2 c t m n (free + 1) (omega arith) (omega arith) h))
+
+    test_by_adds : (e : p.Expr) → IsTyped g f e → Adds e → AddsTest e
+    test_by_adds (p.Not a) ty value c t m n free holds fails lf le here there h =
+        at_most g code low limit (c + 6 + 64 * (1 + expr_nodes a)) t (omega arith) (omega arith)
+        (test_by_adds a ty.0 (adds a ty.0) c t m n free fails holds lf (omega arith) there here h)
+    test_by_adds (p.And a b) ty value c t m n free holds fails lf le here there h =
+        at_most g code low limit (c + 6 + 64 * (1 + expr_nodes a + expr_nodes b)) t (omega arith) (omega arith)
+        (and_adds a b (test_by_adds a ty.0 (adds a ty.0)) (test_by_adds b ty.1 (adds b ty.1)) c t m n free holds fails lf (omega arith) here there h)
+    test_by_adds (p.Or a b) ty value c t m n free holds fails lf le here there h =
+        at_most g code low limit (c + 6 + 64 * (1 + expr_nodes a + expr_nodes b)) t (omega arith) (omega arith)
+        (or_adds a b (test_by_adds a ty.0 (adds a ty.0)) (test_by_adds b ty.1 (adds b ty.1)) c t m n free holds fails lf (omega arith) here there h)
+    test_by_adds e ty value c t m n free holds fails lf le here there h = value_decides e value c t m n free holds fails lf le here there h
+
+  pub adds_test : (e : p.Expr) → IsTyped g f e → AddsTest e
+  adds_test e ty = test_by_adds e ty (adds e ty)

@@ -25,15 +25,15 @@ use Rattle.im_lower_relation.specs.Codes.{ends}
 use Rattle.im_lower_relation.specs.Statements.{zero_line, kind_in}
 use Rattle.im_lower_relation.specs.Lowered.{loops_in, loops_among, AreObjects}
 use Rattle.im_lower_plain.specs.Made.{Made, put, put_write, close, start, turn}
-use Rattle.im_lower_plain.specs.Make.{make}
+use Rattle.im_lower_plain.specs.Make.{make, make_test}
 use Rattle.im_lower_plain.specs.MakeStatement.{put_zero, put_rest, put_piece, label_at, put_cases, make_pieces, make_return, test_made, cells_there, make_statement, make_block, make_labelled, labels_of}
 use Rattle.im_lower_plain.proofs.Growth.{Grows, stays, grows_on, grows_close, grows_start, grows_turn, close_length, start_blocks, got_last}
-use Rattle.im_lower_plain.proofs.Grown.{grows}
+use Rattle.im_lower_plain.proofs.Grown.{grows, decision_grows}
 use Rattle.im_lower_plain.proofs.GrownStatements.{test_grows, statement_grows, block_grows, labelled_grows, cases_grow}
 use Rattle.im_lower_plain.proofs.CodedStatements.{cells_same}
 use Rattle.im_lower_laws.proofs.Steps.{Step, at_most, step_close, step_start, step_turn}
 use Rattle.im_lower_laws.proofs.LineSteps.{Good_register, GoodPlace, adds_put, adds_null, adds_compare, adds_write, adds_reads, adds_writes}
-use Rattle.im_lower_laws.proofs.ExpressionSteps.{Premises, HasObjects, AreNear, promoted, laid_near, nearer, nodes_positive, local_there, adds}
+use Rattle.im_lower_laws.proofs.ExpressionSteps.{Premises, HasObjects, AreNear, promoted, laid_near, nearer, nodes_positive, local_there, adds, adds_test}
 use Rattle.im_lower_laws.proofs.Given.{Stands, few_given, given_count}
 
 pub statement_positive : (a : p.Stmt) → 1 ≤ stmt_nodes a
@@ -119,6 +119,10 @@ module _ (g : p.Prog) (f : p.Func) (code : Function) (first low limit : ℕ) (pr
   adds_value e ty c t m n le h =
       let one = nodes_positive e in
       adds g f code first low limit premises objects e ty c t m n low (low + 1) (omega arith) (omega arith) (omega arith) le h
+
+  adds_decision : (q : p.Expr) → IsTyped g f q → (c t : ℕ) (m n : Made) (holds fails : ℕ) → low + 1 + expr_nodes q ≤ limit → holds < length n.blocks → fails < length n.blocks → S c t m n → S (c + 6 + 64 * expr_nodes q) t m (make_test g first q low holds fails n)
+  adds_decision q ty c t m n holds fails le here there h =
+      adds_test g f code first low limit premises objects q ty c t m n low holds fails (omega arith) le here there h
 
   zero_adds : (kind : Kind) (c t : ℕ) (m n : Made) → low + 1 ≤ limit → S c t m n → S (c + 7) t m (put (zero_line low kind) n)
   zero_adds kind c t m n le h = by_kind kind
@@ -207,7 +211,7 @@ module _ (g : p.Prog) (f : p.Func) (code : Function) (first low limit : ℕ) (pr
       (step_close g code low limit (cases_add kind ks otherwise labels c t m n ok below some le h)))))
 
   -- a loop's test, with the block of the loop edge
-  test_adds : (q : p.Expr) (c t : ℕ) (m n : Made) → IsTyped g f q → low + 1 + expr_nodes q ≤ limit → S c t m n → S (c + 2 + 0 + 2 + 6 + 64 * expr_nodes q) (t + 1 + 0) m (test_made g first low q (length n.blocks) (close n))
+  test_adds : (q : p.Expr) (c t : ℕ) (m n : Made) → IsTyped g f q → low + 1 + expr_nodes q ≤ limit → S c t m n → S (c + 2 + 0 + 2 + 6 + 64 * expr_nodes q) (t + 1) m (test_made g first low q (length n.blocks) (close n))
   test_adds q c t m n ty le h =
       let joined = close n in
       let edge = start (Turn 0) joined in
@@ -217,9 +221,8 @@ module _ (g : p.Prog) (f : p.Func) (code : Function) (first low limit : ℕ) (pr
       let some : 0 < length joined.blocks = omega arith in
       let here : length joined.blocks < length (close edge).blocks = omega arith in
       let there : length n.blocks < length (close edge).blocks = omega arith in
-      adds_value q ty (c + 2 + 0 + 2 + 6) (t + 1 + 0) m _ le
-      (step_start g code low limit (Branch low (length joined.blocks) (length n.blocks)) 6 0 (here, there) (here, there) (omega arith) (omega arith) (omega arith) (omega arith)
-      (step_close g code low limit (step_start g code low limit (Turn 0) 0 1 tt some tt (omega arith) (omega arith) (omega arith) (step_close g code low limit h))))
+      adds_decision q ty (c + 2 + 0 + 2) (t + 1) m (close edge) (length joined.blocks) (length n.blocks) le here there
+      (step_close g code low limit (step_start g code low limit (Turn 0) 0 1 tt some tt (omega arith) (omega arith) (omega arith) (step_close g code low limit h)))
 
   -- the block of the loop edge, which is set when the body is made
   abbrev T : p.Expr → Made → Made
@@ -229,8 +232,7 @@ module _ (g : p.Prog) (f : p.Func) (code : Function) (first low limit : ℕ) (pr
   unfolding start close
   edge_made q n last on =
       let edge = start (Turn 0) (close n) in
-      let split = start (Branch low (length (close n).blocks) (length n.blocks)) (close edge) in
-      let first_on : Grows (close edge) (close (T q n)) = grows_close (grows g first q low (low + 1) (grows_start (Branch low (length (close n).blocks) (length n.blocks)) (stays (close edge)))) in
+      let first_on : Grows (close edge) (close (T q n)) = grows_close (decision_grows g first q low (length (close n).blocks) (length n.blocks) (stays (close edge))) in
       (grows_on first_on on).same (length (close n).blocks) (ends (Turn 0)) (got_last (close n).blocks (ends (Turn 0)))
 
   loop_ends : (q : p.Expr) (c t h : ℕ) (m n last : Made) (entry : ℕ) → Grows m n → Grows (close (T q n)) last → entry < length last.blocks → h < length last.blocks → S c t m last → S (c + 0) (t + 0) m (start (Jump h) (turn (length (close n).blocks) entry last))
@@ -308,9 +310,8 @@ module _ (g : p.Prog) (f : p.Func) (code : Function) (first low limit : ℕ) (pr
           let made_other = statement_adds b bs cs breaks continues (c + 2) t m joined ty.2 (farther bs breaks at_join tb) (farther cs continues at_join tc) (omega arith) (step_close g code low limit h) in
           let jumped = step_start g code low limit (Jump (length n.blocks)) 0 0 j1 j1 tt (omega arith) (omega arith) (omega arith) (step_close g code low limit made_other) in
           let made_one = statement_adds a bs cs breaks continues (c + 2 + words_of b + 2 + 0) (t + loops_in b + 0) m begun ty.1 (farther bs breaks at_begun tb) (farther cs continues at_begun tc) (omega arith) jumped in
-          let split = step_start g code low limit (Branch low (length one.blocks) (length other.blocks)) 6 0 (b1, b2) (b1, b2) (omega arith) (omega arith) (omega arith) (omega arith) (step_close g code low limit made_one) in
           at_most g code low limit (c + (64 * (1 + expr_nodes q + stmt_nodes a + stmt_nodes b) - 2)) (t + (loops_in a + loops_in b)) (omega arith) (omega arith)
-          (adds_value q ty.0.0 (c + 2 + words_of b + 2 + 0 + words_of a + 2 + 6) (t + loops_in b + 0 + loops_in a + 0) m _ (omega arith) split)
+          (adds_decision q ty.0.0 (c + 2 + words_of b + 2 + 0 + words_of a + 2) (t + loops_in b + 0 + loops_in a) m (close one) (length one.blocks) (length other.blocks) (omega arith) b1 b2 (step_close g code low limit made_one))
       statement_adds (p.While q a) bs cs breaks continues c t m n ty tb tc le h =
           let test = T q n in
           let body = Statement a (length n.blocks) (length test.blocks) (close test) in
@@ -324,9 +325,9 @@ module _ (g : p.Prog) (f : p.Func) (code : Function) (first low limit : ℕ) (pr
           let body_longer = to_body.longer in
           let body_is = close_length body in
           let tested = step_close g code low limit (test_adds q c t m n ty.0.0 (omega arith) h) in
-          let made = statement_adds a true true (length n.blocks) (length test.blocks) (c + 2 + 0 + 2 + 6 + 64 * expr_nodes q + 2) (t + 1 + 0) m (close test) ty.1 (λ x. omega arith) (λ x. omega arith) (omega arith) tested in
+          let made = statement_adds a true true (length n.blocks) (length test.blocks) (c + 2 + 0 + 2 + 6 + 64 * expr_nodes q + 2) (t + 1) m (close test) ty.1 (λ x. omega arith) (λ x. omega arith) (omega arith) tested in
           at_most g code low limit (c + (64 * (1 + expr_nodes q + stmt_nodes a) - 2)) (t + (1 + loops_in a)) (omega arith) (omega arith)
-          (loop_ends q (c + 2 + 0 + 2 + 6 + 64 * expr_nodes q + 2 + words_of a + 2) (t + 1 + 0 + loops_in a) (length test.blocks) m n (close body) (length body.blocks) h.grows (grows_close to_body) (omega arith) (omega arith) (step_close g code low limit made))
+          (loop_ends q (c + 2 + 0 + 2 + 6 + 64 * expr_nodes q + 2 + words_of a + 2) (t + 1 + loops_in a) (length test.blocks) m n (close body) (length body.blocks) h.grows (grows_close to_body) (omega arith) (omega arith) (step_close g code low limit made))
       statement_adds (p.DoWhile a q) bs cs breaks continues c t m n ty tb tc le h =
           let test = T q n in
           let body = Statement a (length n.blocks) (length test.blocks) (close test) in
@@ -340,9 +341,9 @@ module _ (g : p.Prog) (f : p.Func) (code : Function) (first low limit : ℕ) (pr
           let body_longer = to_body.longer in
           let body_is = close_length body in
           let tested = step_close g code low limit (test_adds q c t m n ty.1.0 (omega arith) h) in
-          let made = statement_adds a true true (length n.blocks) (length test.blocks) (c + 2 + 0 + 2 + 6 + 64 * expr_nodes q + 2) (t + 1 + 0) m (close test) ty.0 (λ x. omega arith) (λ x. omega arith) (omega arith) tested in
+          let made = statement_adds a true true (length n.blocks) (length test.blocks) (c + 2 + 0 + 2 + 6 + 64 * expr_nodes q + 2) (t + 1) m (close test) ty.0 (λ x. omega arith) (λ x. omega arith) (omega arith) tested in
           at_most g code low limit (c + (64 * (1 + stmt_nodes a + expr_nodes q) - 2)) (t + (1 + loops_in a)) (omega arith) (omega arith)
-          (loop_ends q (c + 2 + 0 + 2 + 6 + 64 * expr_nodes q + 2 + words_of a + 2) (t + 1 + 0 + loops_in a) (length (close n).blocks) m n (close body) (length body.blocks) h.grows (grows_close to_body) (omega arith) (omega arith) (step_close g code low limit made))
+          (loop_ends q (c + 2 + 0 + 2 + 6 + 64 * expr_nodes q + 2 + words_of a + 2) (t + 1 + loops_in a) (length (close n).blocks) m n (close body) (length body.blocks) h.grows (grows_close to_body) (omega arith) (omega arith) (step_close g code low limit made))
       statement_adds (p.For a q step b) bs cs breaks continues c t m n ty tb tc le h =
           let test = T q n in
           let next = make g first step low (low + 1) (close test) in
@@ -362,12 +363,12 @@ module _ (g : p.Prog) (f : p.Func) (code : Function) (first low limit : ℕ) (pr
           let body_longer = to_body.longer in
           let body_is = close_length body in
           let on : Grows (close test) (close body) = grows_on (grows_close to_next) (grows_close to_body) in
-          let stepped = adds_value step ty.2 (c + 2 + 0 + 2 + 6 + 64 * expr_nodes q + 2) (t + 1 + 0) m (close test) (omega arith) (step_close g code low limit (test_adds q c t m n ty.1.0 (omega arith) h)) in
-          let made = statement_adds b true true (length n.blocks) (length next.blocks) (c + 2 + 0 + 2 + 6 + 64 * expr_nodes q + 2 + 64 * expr_nodes step + 2) (t + 1 + 0) m (close next) ty.3 (λ x. omega arith) (λ x. omega arith) (omega arith) (step_close g code low limit stepped) in
-          let ended = loop_ends q (c + 2 + 0 + 2 + 6 + 64 * expr_nodes q + 2 + 64 * expr_nodes step + 2 + words_of b + 2) (t + 1 + 0 + loops_in b) (length test.blocks) m n (close body) (length body.blocks) h.grows on (omega arith) (omega arith) (step_close g code low limit made) in
+          let stepped = adds_value step ty.2 (c + 2 + 0 + 2 + 6 + 64 * expr_nodes q + 2) (t + 1) m (close test) (omega arith) (step_close g code low limit (test_adds q c t m n ty.1.0 (omega arith) h)) in
+          let made = statement_adds b true true (length n.blocks) (length next.blocks) (c + 2 + 0 + 2 + 6 + 64 * expr_nodes q + 2 + 64 * expr_nodes step + 2) (t + 1) m (close next) ty.3 (λ x. omega arith) (λ x. omega arith) (omega arith) (step_close g code low limit stepped) in
+          let ended = loop_ends q (c + 2 + 0 + 2 + 6 + 64 * expr_nodes q + 2 + 64 * expr_nodes step + 2 + words_of b + 2) (t + 1 + loops_in b) (length test.blocks) m n (close body) (length body.blocks) h.grows on (omega arith) (omega arith) (step_close g code low limit made) in
           let to_end : Grows n (start (Jump (length test.blocks)) (turn (length (close n).blocks) (length body.blocks) (close body))) = grows_start (Jump (length test.blocks)) (grows_turn (length (close n).blocks) (length body.blocks) (omega arith) (grows_on (grows_close (grows_on (grows_close (stays n)) to_test)) on)) in
           at_most g code low limit (c + (64 * (1 + stmt_nodes a + expr_nodes q + expr_nodes step + stmt_nodes b) - 2)) (t + (1 + loops_in a + loops_in b)) (omega arith) (omega arith)
-          (statement_adds a bs cs breaks continues (c + 2 + 0 + 2 + 6 + 64 * expr_nodes q + 2 + 64 * expr_nodes step + 2 + words_of b + 2 + 0) (t + 1 + 0 + loops_in b + 0) m _ ty.0 (farther bs breaks to_end tb) (farther cs continues to_end tc) (omega arith) ended)
+          (statement_adds a bs cs breaks continues (c + 2 + 0 + 2 + 6 + 64 * expr_nodes q + 2 + 64 * expr_nodes step + 2 + words_of b + 2 + 0) (t + 1 + loops_in b + 0) m _ ty.0 (farther bs breaks to_end tb) (farther cs continues to_end tc) (omega arith) ended)
       statement_adds (p.Switch e ks otherwise ss) bs cs breaks continues c t m n ty tb tc le h =
           let j = length n.blocks in
           let joined = close n in

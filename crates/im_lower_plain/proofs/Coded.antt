@@ -1,6 +1,6 @@
 -- What the body puts for an expression is what the relation asks.
 use Rattle.std.proofs.Common.{◌≡◌, ℕ, suc, ◌+◌, ◌≤◌, true, false, List, [], ◌∷◌, length, refl, ap, ◌∙◌, subst, add-one, arith}
-use Rattle.std.specs.Prelude.{pos, ℤ, Some}
+use Rattle.std.specs.Prelude.{pos, Some}
 use Rattle.im_num.specs.declared.kind.Kind.TheVariants.{Ptr}
 use Rattle.im_ctype.specs.declared.cell.Cell.{Cell}
 use Rattle.im_typed.specs.declared.expression.Change.TheVariants.{Number as NumberBy, Move as PointerBy}
@@ -11,11 +11,11 @@ use Rattle.im_block.specs.declared.code.Line.{Line}
 use Rattle.im_block.specs.declared.code.Line.TheVariants.{Put, Convert, Unary, Not, Compute, Compare, Move, Distance, Address, Read, Write, Call, Serve}
 use Rattle.im_block.specs.declared.code.Exit.TheVariants.{Jump, Branch}
 use Rattle.im_block.specs.declared.code.Block.{Block}
-use Rattle.im_lower_relation.specs.Codes.{Point, before, ends, Begins, further_in, above, where_of, reads_of, writes_of, count_of, Codes, CodesPlace, CodesArguments}
+use Rattle.im_lower_relation.specs.Codes.{Point, before, ends, Begins, further_in, above, where_of, reads_of, writes_of, count_of, Codes, CodesPlace, CodesArguments, CodesTest}
 use Rattle.im_lower_plain.specs.Made.{Made, put, put_read, put_write, close, start}
-use Rattle.im_lower_plain.specs.Make.{place_at, behind, put_reads, put_writes, put_change, put_increment, part_offset, known_made, put_known, make_place, make, make_arguments}
+use Rattle.im_lower_plain.specs.Make.{place_at, behind, put_reads, put_writes, put_change, put_increment, part_offset, fails_made, holds_made, make_place, make, make_arguments, make_test}
 use Rattle.im_lower_plain.proofs.Growth.{Grows, stays, grows_on, grows_put, grows_read, grows_write, grows_close, grows_start, Later, later_before, closed_begins}
-use Rattle.im_lower_plain.proofs.Grown.{place_grows, grows, arguments_grow, change_grows, reads_grow, writes_grow, known_grows, put_known_grows}
+use Rattle.im_lower_plain.proofs.Grown.{place_grows, grows, arguments_grow, change_grows, reads_grow, writes_grow, fails_grow, holds_grow, decision_grows}
 
 -- the numbers of the accesses of a copy
 
@@ -96,32 +96,54 @@ module _ (g : p.Prog) (first : ℕ) (later : List Block) where
         right = subst (λ k. Codes g first later b (free + 1) k n.point (before line m.point)) next (right (free + 1) (free + 1 + 1) (put line m) low le (later_before (grows g first a free (free + 1) (stays n)) l));
       }
 
-  -- the blocks of `&&` and `||`
-  record Short (b : p.Expr) (z : ℤ) (to free : ℕ) (m : Made) (low : ℕ) : Type 0 where
+  -- the blocks of a truth value
+  record Truths (to : ℕ) (m : Made) (low : ℕ) : Type 0 where
     join : Begins later (length m.blocks) m.point
-    known : Begins later (length (known_made z to m).blocks) (before (Put to z) (ends (Jump (length m.blocks))))
-    rest : Begins later (length (make g first b free (free + 1) (put_known z to free m)).blocks) (make g first b free (free + 1) (put_known z to free m)).point
-    right : Codes g first later b free (free + 1) (make g first b free (free + 1) (put_known z to free m)).point (before (Not free free) (before (Not to free) (ends (Jump (length m.blocks)))))
-    le : low ≤ length (close (make g first b free (free + 1) (put_known z to free m))).blocks
+    one : Begins later (length (holds_made to m).blocks) (before (Put to (pos 1)) (ends (Jump (length m.blocks))))
+    none : Begins later (length (fails_made to m).blocks) (before (Put to (pos 0)) (ends (Jump (length m.blocks))))
+    le : low ≤ length (close (holds_made to m)).blocks
 
-  short_coded : (b : p.Expr) → Coded b → (z : ℤ) (to free : ℕ) (m : Made) (low : ℕ) → low ≤ length m.blocks → (final : Made) → Grows (close (make g first b free (free + 1) (put_known z to free m))) final → Later low final later → Short b z to free m low
+  truths_coded : (to : ℕ) (m final : Made) (low : ℕ) → low ≤ length m.blocks → Grows (close (holds_made to m)) final → Later low final later → Truths to m low
   unfolding put start close
-  short_coded b right z to free m low le final on l =
-      let known = known_made z to m in
-      let begun = put_known z to free m in
-      let rest = make g first b free (free + 1) begun in
-      let to_known : Grows m known = known_grows z to (stays m) in
-      let to_begun : Grows m begun = put_known_grows z to free (stays m) in
-      let to_rest : Grows m rest = grows g first b free (free + 1) to_begun in
-      let begin : Grows (close m) (close known) = grows_close (grows_put (Put to z) (stays (close m))) in
-      let middle : Grows (close known) (close rest) = grows_close (grows g first b free (free + 1) (grows_put (Not free free) (grows_put (Not to free) (grows_start (Jump (length m.blocks)) (stays (close known)))))) in
+  truths_coded to m final low le on l =
+      let fails = fails_made to m in
+      let holds = holds_made to m in
+      let to_fails : Grows m fails = fails_grow to (stays m) in
+      let to_holds : Grows m holds = holds_grow to (stays m) in
+      let begin : Grows (close m) (close fails) = grows_close (grows_put (Put to (pos 0)) (stays (close m))) in
+      let middle : Grows (close fails) (close holds) = grows_close (grows_put (Put to (pos 1)) (grows_start (Jump (length m.blocks)) (stays (close fails)))) in
       record {
         join = closed_begins m le (later_before (grows_on begin (grows_on middle on)) l);
-        known = closed_begins known (further_on low le to_known) (later_before (grows_on middle on) l);
-        rest = closed_begins rest (further_on low le to_rest) (later_before on l);
-        right = right free (free + 1) begun low (further_on low le to_begun) (later_before (grows_on (grows_close (stays rest)) on) l);
-        le = further_on low le (grows_close to_rest);
+        one = closed_begins holds (further_on low le to_holds) (later_before on l);
+        none = closed_begins fails (further_on low le to_fails) (later_before (grows_on middle on) l);
+        le = further_on low le (grows_close to_holds);
       }
+
+  abbrev CodedTest : p.Expr → Type 0
+  CodedTest e =
+      (free holds fails : ℕ) (m : Made) (low : ℕ) → low ≤ length m.blocks → Later low (make_test g first e free holds fails m) later
+      → CodesTest g first later e free holds fails (make_test g first e free holds fails m).point
+
+  -- two tests, the second of which begins a block
+  record TwoTests (a b : p.Expr) (free : ℕ) (x y z w : ℕ) (m : Made) : Type 0 where
+    more : Begins later (length (make_test g first b free x y m).blocks) (make_test g first b free x y m).point
+    left : CodesTest g first later a free z w (make_test g first a free z w (close (make_test g first b free x y m))).point
+    right : CodesTest g first later b free x y (make_test g first b free x y m).point
+
+  two_tests_coded : (a b : p.Expr) → CodedTest a → CodedTest b → (free x y z w : ℕ) (m : Made) (low : ℕ) → low ≤ length m.blocks → Later low (make_test g first a free z w (close (make_test g first b free x y m))) later → TwoTests a b free x y z w m
+  two_tests_coded a b left right free x y z w m low le l =
+      let rest = make_test g first b free x y m in
+      let to_rest : Grows m rest = decision_grows g first b free x y (stays m) in
+      let on : Grows (close rest) (make_test g first a free z w (close rest)) = decision_grows g first a free z w (stays (close rest)) in
+      record {
+        more = closed_begins rest (further_on low le to_rest) (later_before on l);
+        left = left free z w (close rest) low (further_on low le (grows_close to_rest)) l;
+        right = right free x y m low le (later_before (grows_on (grows_close (stays rest)) on) l);
+      }
+
+  from_truths : (a b : p.Expr) (free x y z w : ℕ) (m : Made) → Grows m (make_test g first a free z w (close (make_test g first b free x y m)))
+  from_truths a b free x y z w m =
+      decision_grows g first a free z w (grows_close (decision_grows g first b free x y (stays m)))
 
   mutual
     unfolding put put_read put_write close start
@@ -163,31 +185,33 @@ module _ (g : p.Prog) (first : ℕ) (later : List Block) where
         (two.mid, two.left, two.right)
     coded (p.Not a) to free m low le l = coded a free (free + 1) (put (Not to free) m) low le l
     coded (p.And a b) to free m low le l =
-        let known = known_made (pos 0) to m in
-        let rest = make g first b free (free + 1) (put_known (pos 0) to free m) in
-        let split = start (Branch free (length rest.blocks) (length known.blocks)) (close rest) in
-        let on = grows g first a free (free + 1) (grows_start (Branch free (length rest.blocks) (length known.blocks)) (stays (close rest))) in
-        let s = short_coded b (coded b) (pos 0) to free m low le (make g first a free (free + 1) split) on l in
-        (length m.blocks, length rest.blocks, length known.blocks, rest.point, s.join, s.rest, s.known, coded a free (free + 1) split low s.le l, s.right)
+        let x = length (holds_made to m).blocks in
+        let y = length (fails_made to m).blocks in
+        let begun = close (holds_made to m) in
+        let rest = make_test g first b free x y begun in
+        let k = length rest.blocks in
+        let s = truths_coded to m (make_test g first a free k y (close rest)) low le (from_truths a b free x y k y begun) l in
+        let two = two_tests_coded a b (coded_test_by a (coded a)) (coded_test_by b (coded b)) free x y k y begun low s.le l in
+        (length m.blocks, x, y, k, rest.point, s.join, s.one, s.none, two.more, two.left, two.right)
     coded (p.Or a b) to free m low le l =
-        let known = known_made (pos 1) to m in
-        let rest = make g first b free (free + 1) (put_known (pos 1) to free m) in
-        let split = start (Branch free (length known.blocks) (length rest.blocks)) (close rest) in
-        let on = grows g first a free (free + 1) (grows_start (Branch free (length known.blocks) (length rest.blocks)) (stays (close rest))) in
-        let s = short_coded b (coded b) (pos 1) to free m low le (make g first a free (free + 1) split) on l in
-        (length m.blocks, length rest.blocks, length known.blocks, rest.point, s.join, s.rest, s.known, coded a free (free + 1) split low s.le l, s.right)
+        let x = length (holds_made to m).blocks in
+        let y = length (fails_made to m).blocks in
+        let begun = close (holds_made to m) in
+        let rest = make_test g first b free x y begun in
+        let k = length rest.blocks in
+        let s = truths_coded to m (make_test g first a free x k (close rest)) low le (from_truths a b free x y x k begun) l in
+        let two = two_tests_coded a b (coded_test_by a (coded a)) (coded_test_by b (coded b)) free x y x k begun low s.le l in
+        (length m.blocks, x, y, k, rest.point, s.join, s.one, s.none, two.more, two.left, two.right)
     coded (p.Choose q a b) to free m low le l =
         let other = make g first b to free (close m) in
         let begun = start (Jump (length m.blocks)) (close other) in
         let one = make g first a to free begun in
-        let split = start (Branch free (length one.blocks) (length other.blocks)) (close one) in
-        let last : Grows (close one) (make g first q free (free + 1) split) = grows g first q free (free + 1) (grows_start (Branch free (length one.blocks) (length other.blocks)) (stays (close one))) in
+        let last : Grows (close one) (make_test g first q free (length one.blocks) (length other.blocks) (close one)) = decision_grows g first q free (length one.blocks) (length other.blocks) (stays (close one)) in
         let middle : Grows (close other) (close one) = grows_close (grows g first a to free (grows_start (Jump (length m.blocks)) (stays (close other)))) in
         let begin : Grows (close m) (close other) = grows_close (grows g first b to free (stays (close m))) in
         let to_other : Grows m other = grows g first b to free (grows_close (stays m)) in
         let to_begun : Grows m begun = grows_start (Jump (length m.blocks)) (grows_close to_other) in
         let to_one : Grows m one = grows g first a to free to_begun in
-        let to_split : Grows m split = grows_start (Branch free (length one.blocks) (length other.blocks)) (grows_close to_one) in
         let joined : Grows m (close m) = grows_close (stays m) in (
           length m.blocks,
           length one.blocks,
@@ -197,7 +221,7 @@ module _ (g : p.Prog) (first : ℕ) (later : List Block) where
           closed_begins m le (later_before (grows_on begin (grows_on middle last)) l),
           closed_begins one (further_on low le to_one) (later_before last l),
           closed_begins other (further_on low le to_other) (later_before (grows_on middle last) l),
-          coded q free (free + 1) split low (further_on low le to_split) l,
+          coded_test_by q (coded q) free (length one.blocks) (length other.blocks) (close one) low (further_on low le (grows_close to_one)) l,
           coded a to free begun low (further_on low le to_begun) (later_before (grows_on (grows_close (stays one)) last) l),
           coded b to free (close m) low (further_on low le joined) (later_before (grows_on (grows_close (stays other)) (grows_on middle last)) l),
         )
@@ -304,3 +328,18 @@ module _ (g : p.Prog) (first : ℕ) (later : List Block) where
           coded e free (free + 1) n low (further_on low le (arguments_grow g first rest (free + 1) (stays m))) l,
           arguments_coded rest (free + 1) m low le (later_before (grows g first e free (free + 1) (stays n)) l),
         )
+
+    coded_test_by : (e : p.Expr) → Coded e → CodedTest e
+    coded_test_by (p.Not a) value free x y m low le l = coded_test_by a (coded a) free y x m low le l
+    coded_test_by (p.And a b) value free x y m low le l =
+        let rest = make_test g first b free x y m in
+        let two = two_tests_coded a b (coded_test_by a (coded a)) (coded_test_by b (coded b)) free x y (length rest.blocks) y m low le l in
+        (length rest.blocks, rest.point, two.more, two.left, two.right)
+    coded_test_by (p.Or a b) value free x y m low le l =
+        let rest = make_test g first b free x y m in
+        let two = two_tests_coded a b (coded_test_by a (coded a)) (coded_test_by b (coded b)) free x y x (length rest.blocks) m low le l in
+        (length rest.blocks, rest.point, two.more, two.left, two.right)
+    coded_test_by e value free x y m low le l = value free (free + 1) (start (Branch free x y) m) low le l
+
+  pub test_coded : (e : p.Expr) → CodedTest e
+  test_coded e = coded_test_by e (coded e)

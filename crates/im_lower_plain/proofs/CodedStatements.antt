@@ -13,15 +13,15 @@ use Rattle.im_block.specs.declared.code.Place.TheVariants.{Local}
 use Rattle.im_block.specs.declared.code.Line.TheVariants.{Put, Compare, Write}
 use Rattle.im_block.specs.declared.code.Exit.TheVariants.{Jump, Turn, Branch, Return}
 use Rattle.im_block.specs.declared.code.Block.{Block}
-use Rattle.im_lower_relation.specs.Codes.{Point, before, ends, Begins, reads_of, writes_of, Codes}
+use Rattle.im_lower_relation.specs.Codes.{Point, before, ends, Begins, reads_of, writes_of, Codes, CodesTest}
 use Rattle.im_lower_relation.specs.Statements.{zero_line, kind_in, start_at, CodesRest, CodesCases, CodesPiece, CodesPieces, CodesReturn, CodesStatement, CodesStatements}
 use Rattle.im_lower_relation.specs.Lowered.{AreObjects, CodesParameters, kind_of_one, brace}
 use Rattle.im_lower_plain.specs.Made.{Made, put, put_read, put_write, close, start, turn}
-use Rattle.im_lower_plain.specs.Make.{put_reads, put_writes, make}
+use Rattle.im_lower_plain.specs.Make.{put_reads, put_writes, make, make_test}
 use Rattle.im_lower_plain.specs.MakeStatement.{put_zero, put_rest, put_piece, put_parameters, label_at, put_case, put_cases, make_brace, make_piece, make_pieces, make_return, test_made, cells_there, make_statement, make_block, make_labelled, labels_of}
 use Rattle.im_lower_plain.proofs.Growth.{Grows, stays, grows_on, grows_put, grows_close, grows_start, grows_turn, close_length, turn_blocks, got_last, got_other, got_same, Later, later_before, closed_begins}
-use Rattle.im_lower_plain.proofs.Grown.{grows, reads_grow, writes_grow}
-use Rattle.im_lower_plain.proofs.Coded.{reads_point, writes_point, further_on, coded}
+use Rattle.im_lower_plain.proofs.Grown.{grows, decision_grows, reads_grow, writes_grow}
+use Rattle.im_lower_plain.proofs.Coded.{reads_point, writes_point, further_on, coded, test_coded}
 use Rattle.im_lower_plain.proofs.GrownStatements.{rest_grows, piece_grows, cases_grow, pieces_grow, test_grows, statement_grows, block_grows, labelled_grows}
 
 -- the block that was closed last
@@ -167,7 +167,7 @@ module _ (g : p.Prog) (first low : ℕ) (os : List Object) (objects : List p.Loc
     join : Begins later (length m.blocks) m.point
     edge : Begins later (length (close m).blocks) (ends (Turn entry))
     test : Begins later (length (Test q m).blocks) (Test q m).point
-    check : Codes g first later q low (low + 1) (Test q m).point (ends (Branch low (length (close m).blocks) (length m.blocks)))
+    check : CodesTest g first later q low (length (close m).blocks) (length m.blocks) (Test q m).point
     above : Later (suc (length (close m).blocks)) last later
     high : suc (length (close m).blocks) ≤ length (close (Test q m)).blocks
 
@@ -177,22 +177,21 @@ module _ (g : p.Prog) (first low : ℕ) (os : List Object) (objects : List p.Loc
       let k = length (close m).blocks in
       let t = Test q m in
       let edge = start (Turn 0) (close m) in
-      let split = start (Branch low k (length m.blocks)) (close edge) in
       let longer : k ≡ length m.blocks + 1 = close_length m in
-      let split_length : length split.blocks ≡ k + 1 = close_length edge in
-      let from_split : Grows split t = grows g first q low (low + 1) (stays split) in
-      let t_high = from_split.longer in
+      let edge_length : length (close edge).blocks ≡ k + 1 = close_length edge in
+      let from_edge : Grows (close edge) t = decision_grows g first q low k (length m.blocks) (stays (close edge)) in
+      let t_high = from_edge.longer in
       let t_length = close_length t in
       let last_high = on.longer in
       let from_join : Grows (close m) last = grows_on (grows_close (test_grows g first low q (length m.blocks) (stays (close m)))) on in
       let above : Later (suc k) last later = record { each = λ b p more e. unturned last k entry l b p (let a : bottom ≤ b = omega arith in a) (λ same. absurd (omega arith)) e } in
       let t_there : suc k ≤ length t.blocks = omega arith in
-      let split_there : suc k ≤ length split.blocks = omega arith in
+      let edge_there : suc k ≤ length (close edge).blocks = omega arith in
       record {
         join = unturned last k entry l (length m.blocks) m.point le (λ same. absurd (omega arith)) (from_join.same (length m.blocks) m.point (closed_at m));
         edge = turned_edge last k entry l (let a : bottom ≤ k = omega arith in a) (let a : k < length last.blocks = omega arith in a);
         test = above.each (length t.blocks) t.point t_there (on.same (length t.blocks) t.point (closed_at t));
-        check = coded g first later q low (low + 1) split (suc k) split_there (later_before (grows_on (grows_close (stays t)) on) above);
+        check = test_coded g first later q low k (length m.blocks) (close edge) (suc k) edge_there (later_before (grows_on (grows_close (stays t)) on) above);
         above = above;
         high = omega arith;
       }
@@ -246,14 +245,12 @@ module _ (g : p.Prog) (first low : ℕ) (os : List Object) (objects : List p.Loc
         let other = make_statement g first low os b breaks continues (close m) in
         let begun = start (Jump (length m.blocks)) (close other) in
         let one = make_statement g first low os a breaks continues begun in
-        let split = start (Branch low (length one.blocks) (length other.blocks)) (close one) in
-        let last : Grows (close one) (make g first q low (low + 1) split) = grows g first q low (low + 1) (grows_start (Branch low (length one.blocks) (length other.blocks)) (stays (close one))) in
+        let last : Grows (close one) (make_test g first q low (length one.blocks) (length other.blocks) (close one)) = decision_grows g first q low (length one.blocks) (length other.blocks) (stays (close one)) in
         let middle : Grows (close other) (close one) = grows_close (statement_grows g first low os a breaks continues (grows_start (Jump (length m.blocks)) (stays (close other)))) in
         let begin : Grows (close m) (close other) = grows_close (statement_grows g first low os b breaks continues (stays (close m))) in
         let to_other : Grows m other = statement_grows g first low os b breaks continues (grows_close (stays m)) in
         let to_begun : Grows m begun = grows_start (Jump (length m.blocks)) (grows_close to_other) in
         let to_one : Grows m one = statement_grows g first low os a breaks continues to_begun in
-        let to_split : Grows m split = grows_start (Branch low (length one.blocks) (length other.blocks)) (grows_close to_one) in
         let joined : Grows m (close m) = grows_close (stays m) in (
           length m.blocks,
           length one.blocks,
@@ -263,7 +260,7 @@ module _ (g : p.Prog) (first low : ℕ) (os : List Object) (objects : List p.Loc
           closed_begins m le (later_before (grows_on begin (grows_on middle last)) l),
           closed_begins one (further_on bottom le to_one) (later_before last l),
           closed_begins other (further_on bottom le to_other) (later_before (grows_on middle last) l),
-          coded g first later q low (low + 1) split bottom (further_on bottom le to_split) l,
+          test_coded g first later q low (length one.blocks) (length other.blocks) (close one) bottom (further_on bottom le (grows_close to_one)) l,
           statement_coded a breaks continues begun bottom (further_on bottom le to_begun) (later_before (grows_on (grows_close (stays one)) last) l),
           statement_coded b breaks continues (close m) bottom (further_on bottom le joined) (later_before (grows_on (grows_close (stays other)) (grows_on middle last)) l),
         )

@@ -1,6 +1,6 @@
 -- Expressions add blocks, and change none.
 use Rattle.std.proofs.Common.{ℕ, ◌+◌, false, List, [], ◌∷◌, length}
-use Rattle.std.specs.Prelude.{pos, ℤ, Some, None}
+use Rattle.std.specs.Prelude.{pos, Some, None}
 use Rattle.im_ctype.specs.declared.cell.Cell.{Cell}
 use Rattle.im_typed.specs.declared.expression.Change.{Change}
 use Rattle.im_typed.specs.declared.expression.Change.TheVariants.{Number as NumberBy, Move as PointerBy}
@@ -10,10 +10,10 @@ use Rattle.im_num.specs.declared.kind.Kind.TheVariants.{Ptr}
 use Rattle.im_block.specs.declared.code.Place.{Place}
 use Rattle.im_block.specs.declared.code.Place.TheVariants.{Through}
 use Rattle.im_block.specs.declared.code.Line.TheVariants.{Put, PutNull, Convert, Unary, Not, Compute, Compare, Move, Distance, Address, Call, Serve}
-use Rattle.im_block.specs.declared.code.Exit.TheVariants.{Jump}
+use Rattle.im_block.specs.declared.code.Exit.TheVariants.{Jump, Branch}
 use Rattle.im_lower_relation.specs.Codes.{further_in, count_of}
-use Rattle.im_lower_plain.specs.Made.{Made}
-use Rattle.im_lower_plain.specs.Make.{place_at, behind, put_load, put_reads, put_writes, put_change, changed_in, part_offset, known_made, put_known, make_place, make, make_arguments}
+use Rattle.im_lower_plain.specs.Made.{Made, start}
+use Rattle.im_lower_plain.specs.Make.{place_at, behind, put_load, put_reads, put_writes, put_change, changed_in, part_offset, fails_made, holds_made, make_place, make, make_arguments, make_test}
 use Rattle.im_lower_plain.proofs.Growth.{Grows, grows_put, grows_read, grows_write, grows_close, grows_start}
 
 pub load_grows : {m n : Made} (x : p.Access) (to : ℕ) (place : Place) → Grows m n → Grows m (put_load x to place n)
@@ -33,14 +33,17 @@ change_grows (NumberBy kind op at) to old by place h =
     grows_put (Compute to op at old by) (grows_put (Convert to kind to) (grows_write place kind to h))
 change_grows (PointerBy size back) to old by place h = grows_put (Move to size back old by) (grows_write place Ptr to h)
 
-pub known_grows : {m n : Made} (z : ℤ) (to : ℕ) → Grows m n → Grows m (known_made z to n)
-known_grows z to h = grows_put (Put to z) (grows_close h)
+pub fails_grow : {m n : Made} (to : ℕ) → Grows m n → Grows m (fails_made to n)
+fails_grow to h = grows_put (Put to (pos 0)) (grows_close h)
 
-pub put_known_grows : {m n : Made} (z : ℤ) (to free : ℕ) → Grows m n → Grows m (put_known z to free n)
-put_known_grows {m} {n} z to free h =
-    grows_put (Not free free) (grows_put (Not to free) (grows_start (Jump (length n.blocks)) (grows_close (known_grows z to h))))
+pub holds_grow : {m n : Made} (to : ℕ) → Grows m n → Grows m (holds_made to n)
+holds_grow {m} {n} to h =
+    grows_put (Put to (pos 1)) (grows_start (Jump (length n.blocks)) (grows_close (fails_grow to h)))
 
 module _ (g : p.Prog) (first : ℕ) where
+  abbrev ValueGrows : p.Expr → Type 0
+  ValueGrows e = (m n : Made) (to free : ℕ) → Grows m n → Grows m (make g first e to free n)
+
   mutual
     pub place_grows : {m n : Made} (a : p.Place) (free : ℕ) → Grows m n → Grows m (make_place g first a free n)
     place_grows (p.Static k) free h = h
@@ -66,10 +69,15 @@ module _ (g : p.Prog) (first : ℕ) where
     grows (p.Compare op kind a b) to free h =
         grows a free (free + 1) (grows b (free + 1) (free + 1 + 1) (grows_put (Compare to op kind free (free + 1)) h))
     grows (p.Not a) to free h = grows a free (free + 1) (grows_put (Not to free) h)
-    grows (p.And a b) to free h = grows a free (free + 1) (grows_start _ (grows_close (grows b free (free + 1) (put_known_grows (pos 0) to free h))))
-    grows (p.Or a b) to free h = grows a free (free + 1) (grows_start _ (grows_close (grows b free (free + 1) (put_known_grows (pos 1) to free h))))
+    grows (p.And a b) to free h =
+        test_by_grows a (λ m n to free h. grows a to free h) free _ _ (grows_close
+        (test_by_grows b (λ m n to free h. grows b to free h) free _ _ (grows_close (holds_grow to h))))
+    grows (p.Or a b) to free h =
+        test_by_grows a (λ m n to free h. grows a to free h) free _ _ (grows_close
+        (test_by_grows b (λ m n to free h. grows b to free h) free _ _ (grows_close (holds_grow to h))))
     grows (p.Choose q a b) to free h =
-        grows q free (free + 1) (grows_start _ (grows_close (grows a to free (grows_start _ (grows_close (grows b to free (grows_close h)))))))
+        test_by_grows q (λ m n to free h. grows q to free h) free _ _
+        (grows_close (grows a to free (grows_start _ (grows_close (grows b to free (grows_close h))))))
     grows (p.Comma a b) to free h = grows a free (free + 1) (grows b to free h)
     grows (p.Discard a) to free h = grows a to free h
     grows (p.Assign (p.Scalar kind) a e) to free h =
@@ -91,3 +99,17 @@ module _ (g : p.Prog) (first : ℕ) where
     pub arguments_grow : {m n : Made} (es : p.Exprs) (free : ℕ) → Grows m n → Grows m (make_arguments g first es free n)
     arguments_grow p.no_exprs free h = h
     arguments_grow (p.more_exprs e rest) free h = grows e free (free + 1) (arguments_grow rest (free + 1) h)
+
+    test_by_grows : {m n : Made} (e : p.Expr) → ValueGrows e → (free holds fails : ℕ) → Grows m n → Grows m (make_test g first e free holds fails n)
+    test_by_grows (p.Not a) value free holds fails h = test_by_grows a (λ m n to free h. grows a to free h) free fails holds h
+    test_by_grows (p.And a b) value free holds fails h =
+        test_by_grows a (λ m n to free h. grows a to free h) free _ fails (grows_close
+        (test_by_grows b (λ m n to free h. grows b to free h) free holds fails h))
+    test_by_grows (p.Or a b) value free holds fails h =
+        test_by_grows a (λ m n to free h. grows a to free h) free holds _ (grows_close
+        (test_by_grows b (λ m n to free h. grows b to free h) free holds fails h))
+    test_by_grows {m} {n} e value free holds fails h =
+        value m (start (Branch free holds fails) n) free (free + 1) (grows_start (Branch free holds fails) h)
+
+  pub decision_grows : {m n : Made} (e : p.Expr) (free holds fails : ℕ) → Grows m n → Grows m (make_test g first e free holds fails n)
+  decision_grows e free holds fails h = test_by_grows e (λ m n to free h. grows e to free h) free holds fails h

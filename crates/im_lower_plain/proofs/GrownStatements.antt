@@ -11,12 +11,12 @@ use Rattle.im_typed.specs.Typing.{shape_of}
 use Rattle.im_block.specs.declared.unit.Object.{Object}
 use Rattle.im_block.specs.declared.code.Place.TheVariants.{Local}
 use Rattle.im_block.specs.declared.code.Line.TheVariants.{Put, Compare}
-use Rattle.im_block.specs.declared.code.Exit.TheVariants.{Jump, Turn, Branch, Return}
+use Rattle.im_block.specs.declared.code.Exit.TheVariants.{Jump, Turn, Return}
 use Rattle.im_lower_relation.specs.Statements.{zero_line, kind_in}
 use Rattle.im_lower_plain.specs.Made.{Made, close}
 use Rattle.im_lower_plain.specs.MakeStatement.{put_rest, put_piece, label_at, put_cases, make_pieces, make_return, test_made, cells_there, make_statement, make_block, make_labelled}
 use Rattle.im_lower_plain.proofs.Growth.{Grows, grows_put, grows_write, grows_close, grows_start, grows_turn, close_length}
-use Rattle.im_lower_plain.proofs.Grown.{grows, reads_grow, writes_grow}
+use Rattle.im_lower_plain.proofs.Grown.{grows, decision_grows, reads_grow, writes_grow}
 
 if_grows : {m a b : Made} (c : Bool) → Grows m a → Grows m b → Grows m (if c then a else b)
 if_grows true h k = h
@@ -51,7 +51,7 @@ module _ (g : p.Prog) (first low : ℕ) where
 
   pub test_grows : {m n : Made} (q : p.Expr) (join : ℕ) → Grows m n → Grows m (test_made g first low q join n)
   test_grows {m} {n} q join h =
-      grows g first q low (low + 1) (grows_start (Branch low (length n.blocks) join) (grows_close (grows_start (Turn 0) h)))
+      decision_grows g first q low (length n.blocks) join (grows_close (grows_start (Turn 0) h))
 
   late : {m n : Made} → Grows m n → length m.blocks ≤ length (close n).blocks
   late {m} {n} h =
@@ -68,7 +68,8 @@ module _ (g : p.Prog) (first low : ℕ) where
           pieces_grow (first + x) ps (rest_grows low (first + x) (given_offsets ps) (cells_there (slice_get os x)) h)
       statement_grows (p.Block ss) breaks continues h = block_grows ss breaks continues h
       statement_grows (p.If q a b) breaks continues h =
-          grows g first q low (low + 1) (grows_start _ (grows_close (statement_grows a breaks continues (grows_start _ (grows_close (statement_grows b breaks continues (grows_close h)))))))
+          decision_grows g first q low _ _
+          (grows_close (statement_grows a breaks continues (grows_start _ (grows_close (statement_grows b breaks continues (grows_close h))))))
       statement_grows {m} {n} (p.While q a) breaks continues h =
           grows_start _ (grows_turn (length (close n).blocks) _ (late h) (grows_close (statement_grows a (length n.blocks) _ (grows_close (test_grows q (length n.blocks) (grows_close h))))))
       statement_grows {m} {n} (p.DoWhile a q) breaks continues h =

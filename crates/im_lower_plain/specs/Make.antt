@@ -1,6 +1,6 @@
 -- What the parts of an expression put before the open block, as a function from the code so far. Private contracts alone
 -- speak of this; that it is what the relation asks is proved.
-use Rattle.std.specs.Prelude.{ℕ, ◌+◌, true, false, Bool, List, [], ◌∷◌, length, ℤ, pos, slice_get, Some, None}
+use Rattle.std.specs.Prelude.{ℕ, ◌+◌, true, false, Bool, List, [], ◌∷◌, length, pos, slice_get, Some, None}
 use Rattle.im_num.specs.declared.kind.Kind.TheVariants.{Ptr}
 use Rattle.im_ctype.specs.declared.cell.Cell.{Cell}
 use Rattle.im_typed.specs.declared.expression.Change.{Change}
@@ -80,12 +80,12 @@ put_operator (p.Not a) to free m = put (Not to free) m
 put_operator (p.Serve service (p.an_argument e)) to free m = put (Serve to service (Some free)) m
 put_operator e to free m = m
 
--- `&&` and `||`: a block for what follows, and one for the value that is known; then the right operand's truth
-abbrev pub known_made : ℤ → ℕ → Made → Made
-known_made z to m = put (Put to z) (close m)
+-- the value of `&&` and `||`: a block that gives 0, and one that gives 1; both go on at what follows
+abbrev pub fails_made : ℕ → Made → Made
+fails_made to m = put (Put to (pos 0)) (close m)
 
-abbrev pub put_known : ℤ → ℕ → ℕ → Made → Made
-put_known z to free m = put (Not free free) (put (Not to free) (start (Jump (length m.blocks)) (close (known_made z to m))))
+abbrev pub holds_made : ℕ → Made → Made
+holds_made to m = put (Put to (pos 1)) (start (Jump (length m.blocks)) (close (fails_made to m)))
 
 module _ (g : p.Prog) (first : ℕ) where
   abbrev mutual
@@ -114,16 +114,16 @@ module _ (g : p.Prog) (first : ℕ) where
         make a free (free + 1) (make b (free + 1) (free + 1 + 1) (put (Compare to op kind free (free + 1)) m))
     make (p.Not a) to free m = make a free (free + 1) (put (Not to free) m)
     make (p.And a b) to free m =
-        let rest = make b free (free + 1) (put_known (pos 0) to free m) in
-        make a free (free + 1) (start (Branch free (length rest.blocks) (length (known_made (pos 0) to m).blocks)) (close rest))
+        let rest = make_test_by b (make b) free (length (holds_made to m).blocks) (length (fails_made to m).blocks) (close (holds_made to m)) in
+        make_test_by a (make a) free (length rest.blocks) (length (fails_made to m).blocks) (close rest)
     make (p.Or a b) to free m =
-        let rest = make b free (free + 1) (put_known (pos 1) to free m) in
-        make a free (free + 1) (start (Branch free (length (known_made (pos 1) to m).blocks) (length rest.blocks)) (close rest))
+        let rest = make_test_by b (make b) free (length (holds_made to m).blocks) (length (fails_made to m).blocks) (close (holds_made to m)) in
+        make_test_by a (make a) free (length (holds_made to m).blocks) (length rest.blocks) (close rest)
     make (p.Choose q a b) to free m =
         let joined = close m in
         let other = make b to free joined in
         let one = make a to free (start (Jump (length m.blocks)) (close other)) in
-        make q free (free + 1) (start (Branch free (length one.blocks) (length other.blocks)) (close one))
+        make_test_by q (make q) free (length one.blocks) (length other.blocks) (close one)
     make (p.Comma a b) to free m = make a free (free + 1) (make b to free m)
     make (p.Discard a) to free m = make a to free m
     make (p.Assign (p.Scalar kind) a e) to free m =
@@ -144,3 +144,17 @@ module _ (g : p.Prog) (first : ℕ) where
     pub make_arguments : p.Exprs → ℕ → Made → Made
     make_arguments p.no_exprs free m = m
     make_arguments (p.more_exprs e rest) free m = make e free (free + 1) (make_arguments rest (free + 1) m)
+
+    -- a test, by what makes the value of its expression: where it goes on if it holds and if it doesn't
+    pub make_test_by : p.Expr → (ℕ → ℕ → Made → Made) → ℕ → (holds fails : ℕ) → Made → Made
+    make_test_by (p.Not a) value free holds fails m = make_test_by a (make a) free fails holds m
+    make_test_by (p.And a b) value free holds fails m =
+        let rest = make_test_by b (make b) free holds fails m in
+        make_test_by a (make a) free (length rest.blocks) fails (close rest)
+    make_test_by (p.Or a b) value free holds fails m =
+        let rest = make_test_by b (make b) free holds fails m in
+        make_test_by a (make a) free holds (length rest.blocks) (close rest)
+    make_test_by e value free holds fails m = value free (free + 1) (start (Branch free holds fails) m)
+
+  abbrev pub make_test : p.Expr → ℕ → (holds fails : ℕ) → Made → Made
+  make_test e free holds fails m = make_test_by e (make e) free holds fails m

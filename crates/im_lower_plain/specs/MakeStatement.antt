@@ -15,7 +15,7 @@ use Rattle.im_block.specs.declared.code.Exit.TheVariants.{Jump, Turn, Branch, Re
 use Rattle.im_lower_relation.specs.Statements.{zero_line, kind_in}
 use Rattle.im_lower_relation.specs.Lowered.{kind_of_one}
 use Rattle.im_lower_plain.specs.Made.{Made, put, put_write, close, start, turn}
-use Rattle.im_lower_plain.specs.Make.{put_reads, put_writes, make}
+use Rattle.im_lower_plain.specs.Make.{put_reads, put_writes, make, make_test}
 
 -- each of these has the register in which statements put values; the next ones are free
 
@@ -83,7 +83,7 @@ module _ (g : p.Prog) (first low : ℕ) where
 
   -- a loop's test: a block that goes to the loop edge, which is made here, or behind the loop
   abbrev pub test_made : p.Expr → ℕ → Made → Made
-  test_made q join m = make g first q low (low + 1) (start (Branch low (length m.blocks) join) (close (start (Turn 0) m)))
+  test_made q join m = make_test g first q low (length m.blocks) join (close (start (Turn 0) m))
 
 -- the cells of an object of the function
 abbrev pub cells_there : Option Object → List Cell
@@ -103,7 +103,7 @@ module _ (g : p.Prog) (first low : ℕ) (os : List Object) where
     make_statement (p.If q a b) breaks continues m =
         let other = make_statement b breaks continues (close m) in
         let one = make_statement a breaks continues (start (Jump (length m.blocks)) (close other)) in
-        make g first q low (low + 1) (start (Branch low (length one.blocks) (length other.blocks)) (close one))
+        make_test g first q low (length one.blocks) (length other.blocks) (close one)
     make_statement (p.While q a) breaks continues m =
         let test = test_made g first low q (length m.blocks) (close m) in
         let turns = make_statement a (length m.blocks) (length test.blocks) (close test) in

@@ -68,7 +68,7 @@ compared-same store op kind v w x y i ev ew hx hy =
     ∙ ap (λ r. then_ r (λ a. then_ (m.converted kind w) (λ b. Fine (compares op a b)))) (converted-same kind v x ev hx)
     ∙ ap (λ r. then_ r (λ b. Fine (compares op x b))) (converted-same kind w y ew hy))
 
--- twice negated, a value is 1 or 0
+-- negated, a value is 1 or 0
 pub negated : (store : Store) (v : Value) (b : Bool) → condition store v ≡ Fine b → m.as_truth (m.negation store v) ≡ Fine (Number (if not b then pos 1 else pos 0))
 negated store v b e = ap (λ r. m.as_truth (then_ r (λ x. Fine (not x)))) e
 
@@ -92,10 +92,6 @@ pub right-kind : (op : BinaryOp) (kind : Kind) (shape : Option q.Access) → IsI
 right-kind ShiftLeft kind shape i h = let s = integer-shape shape (promoted-integer shape h) in (s.0, s.1, s.2, λ y k. refl)
 right-kind ShiftRight kind shape i h = let s = integer-shape shape (promoted-integer shape h) in (s.0, s.1, s.2, λ y k. refl)
 right-kind op kind shape i h = (kind, h, i, λ y k. right-same op kind y k)
-
-pub not-not : (b : Bool) → not (not b) ≡ b
-not-not true = refl
-not-not false = refl
 
 -- a cell takes a value of its kind as it is
 pub stored-same : (begun : ℕ) (store : Store) (kind : Kind) (v : Value) → IsValue begun store kind v → m.stored kind v ≡ Fine v

@@ -25,23 +25,23 @@ use Rattle.im_typed.proofs.Parts.{rel-write_at}
 use Rattle.im_typed.proofs.Induction.{rel-does}
 use Rattle.im_block.specs.declared.code.Place.TheVariants.{Local}
 use Rattle.im_block.specs.declared.code.Line.TheVariants.{Write}
-use Rattle.im_block.specs.declared.code.Exit.TheVariants.{Jump, Turn, Branch, Return}
+use Rattle.im_block.specs.declared.code.Exit.TheVariants.{Jump, Turn, Return}
 use Rattle.im_block.specs.declared.code.Block.{Block}
 use Rattle.im_block.specs.declared.unit.Registers.TheVariants.{Virtual}
 use Rattle.im_block.specs.declared.unit.Function.{Function}
 use Rattle.im_block.specs.declared.unit.Unit.{Unit as Code}
 use Rattle.im_block.specs.Meaning as m
-use Rattle.im_block.specs.Meaning.{Setting, Frame, State, condition}
-use Rattle.im_lower_relation.specs.Codes.{Point, before, ends, Begins, reads_of, writes_of, Codes}
+use Rattle.im_block.specs.Meaning.{Setting, Frame, State}
+use Rattle.im_lower_relation.specs.Codes.{Point, before, ends, Begins, reads_of, writes_of, Codes, CodesTest}
 use Rattle.im_lower_relation.specs.Statements.{start_at, kind_in, Passes, CodesCases, CodesPiece, CodesPieces, CodesRest, CodesStatement, CodesStatements}
 use Rattle.im_lower_relation.specs.Agrees.{Agrees, Home, Mark, moved, at, Follows, Does, HasOne, CameAs}
 use Rattle.im_lower_relation.proofs.Steps.{Right, does-later, does-bind, does-checked, joined, does-weaker}
-use Rattle.im_lower_relation.proofs.Uses.{condition-of, does-jump, does-arm, does-branch, does-turn, stands, does-number}
+use Rattle.im_lower_relation.proofs.Uses.{does-jump, does-arm, does-turn, stands, does-number}
 use Rattle.im_lower_relation.proofs.Operands.{integer-shape, scalar-shape}
 use Rattle.im_lower_relation.proofs.Cells.{write-line}
 use Rattle.im_lower_relation.proofs.Ready.{Ready, Works, ready-known, ready-took, right-of, right-at}
 use Rattle.im_lower_relation.proofs.Structs.{copy-lines, if-used}
-use Rattle.im_lower_relation.proofs.Values.{home, used-as, as-shape, lowered}
+use Rattle.im_lower_relation.proofs.Values.{home, used-as, as-shape, lowered, tested, decided as choose}
 use Rattle.im_lower_relation.proofs.Flows.{end_of, Left, flow-arm, followed, turned, switched}
 use Rattle.im_lower_relation.proofs.Cases.{cases-lead, forgotten-agrees}
 use Rattle.im_lower_relation.proofs.Layouts.{cell-inside, cells-found, cells-inside, local-place}
@@ -86,23 +86,19 @@ module _ (u : Code) (g : Setting) (p : q.Prog) (f : q.Func) (c : Around) (bound 
 
   -- a test decides which of two blocks is next
   decided : {P : Flow → typed.State → (ℕ → Value) → Store → Type 0} {next : Flow → Point} (e : q.Expr) (x y : ℕ) (entry one other : Point) (n : Mark) (registers : ℕ → Value) (store : Store) (s : typed.State) (a b : Run Flow)
-      → IsTyped p f e → IsScalarShape (shape_of p e) → Codes p c.first blocks e low (low + 1) entry (ends (Branch low x y)) → Begins blocks x one → Begins blocks y other → IsReady s store
+      → IsTyped p f e → IsScalarShape (shape_of p e) → CodesTest p c.first blocks e low x y entry → Begins blocks x one → Begins blocks y other → IsReady s store
       → ((i : Mark) (rs : ℕ → Value) (left : Store) (t : typed.State) → IsReady t left → t.fuel ≤ s.fuel → Follows u g p h next (at h i one rs left t) P (a t))
       → ((i : Mark) (rs : ℕ → Value) (left : Store) (t : typed.State) → IsReady t left → t.fuel ≤ s.fuel → Follows u g p h next (at h i other rs left t) P (b t))
       → Follows u g p h next (at h n entry registers store s) P (typed.goes_on (typed.goes_on (value_of c e s) used) (λ v. typed.either (holds v) a b))
   decided e x y entry one other n registers store s a b t scalar codes begins_one begins_other ready held failed =
-      let kind = scalar-shape (shape_of p e) scalar in
-      does-bind u g p h
-      (used-as u g p f c bound works k callers fn is virtual e s kind.1 t ready (value e entry (ends (Branch low x y)) t codes n registers store s ready))
-      (λ v w n₁ after left took.
-      does-branch u g p h fn is low x y one other n₁ after left w a b (holds v) begins_one begins_other
-      (ap (condition left) took.has ∙ condition-of w.world.activations w.world.store left kind.0 v took.agrees took.value took.taken)
-      (held (moved n₁ x) after left w (ready-took p f c bound ready took) took.spent)
-      (failed (moved n₁ y) after left w (ready-took p f c bound ready took) took.spent))
+      choose u g p f c bound works k callers fn is virtual e low entry one other n registers store s a b
+      (tested u g p f c bound works k callers fn is virtual e low x y entry one other t scalar codes begins_one begins_other) ready
+      (λ i rs left v behind. held i rs left v behind.ready behind.spent)
+      (λ i rs left v behind. failed i rs left v behind.ready behind.spent)
 
   -- a loop from its test on. inner is where a `continue` goes on, t what follows
   module _ (e : q.Expr) (turn l b : ℕ) (j : ℕ) (test inner body t out again : Point) (step : Run Values) (run : Run Flow) (P : World → Values → Type 0)
-      (typed_test : IsTyped p f e) (scalar : IsScalarShape (shape_of p e)) (codes : Codes p c.first blocks e low (low + 1) test (ends (Branch low turn j)))
+      (typed_test : IsTyped p f e) (scalar : IsScalarShape (shape_of p e)) (codes : CodesTest p c.first blocks e low turn j test)
       (begins_next : Begins blocks j t) (begins_turn : Begins blocks turn (ends (Turn b))) (begins_body : Begins blocks b body) (begins_inner : Begins blocks l inner)
       (right_body : (store : Store) (s : typed.State) → IsReady s store → Right p.statics s (FlowFits f.result) (run s))
       (does_body : (n : Mark) (registers : ℕ → Value) (store : Store) (s : typed.State) → IsReady s store → Follows u g p h (end_of low (ends (Jump l)) t inner) (at h n body registers store s) (Left low) (run s))

@@ -12,7 +12,7 @@ use Rattle.im_store.specs.Statics.{StaticObject}
 use Rattle.im_store.specs.Access.{taken}
 use Rattle.im_store.specs.Pointers.{holds}
 use Rattle.im_typed.specs.Program.{Prog, Scalar}
-use Rattle.im_typed.specs.Runs.{World, Answer, Gives, Stops, Run, pay, checked, either}
+use Rattle.im_typed.specs.Runs.{World, Answer, Gives, Stops, Run, pay, checked}
 use Rattle.im_typed.specs.Runs as typed
 use Rattle.im_typed.specs.Values.{Values, used, number_of}
 use Rattle.im_typed.specs.Typing.{IsInteger}
@@ -201,15 +201,6 @@ module _ (u : Code) (g : Setting) (p : Prog) (home : Home) where
         stepped u g [] (ap (λ r. m.on_checked r (λ (holds : Bool). m.goes_to u g (if holds then x else y) s.fuel (at home n (ends (Branch on x y)) registers store s))) e ∙ goes x one (ends (Branch on x y)) n registers store s bx)
     branches on x y one other n registers store s false bx by_ e =
         stepped u g [] (ap (λ r. m.on_checked r (λ (holds : Bool). m.goes_to u g (if holds then x else y) s.fuel (at home n (ends (Branch on x y)) registers store s))) e ∙ goes y other (ends (Branch on x y)) n registers store s by_)
-
-    pub does-branch : {A : Type 0} {next : A → Point} {P : A → typed.State → (ℕ → Value) → Store → Type 0} (on x y : ℕ) (one other : Point) (n : Mark) (registers : ℕ → Value) (store : Store) (s : typed.State) (a b : Run A) (c : Bool)
-        → Begins f.blocks.items x one → Begins f.blocks.items y other → condition store (registers on) ≡ Fine c
-        → Follows u g p home next (at home (moved n x) one registers store s) P (a s) → Follows u g p home next (at home (moved n y) other registers store s) P (b s)
-        → Follows u g p home next (at home n (ends (Branch on x y)) registers store s) P (either c a b s)
-    does-branch on x y one other n registers store s a b true bx by_ e h k =
-        does-later u g p home (branches on x y one other n registers store s true bx by_ e) h
-    does-branch on x y one other n registers store s a b false bx by_ e h k =
-        does-later u g p home (branches on x y one other n registers store s false bx by_ e) k
 
     -- a loop edge takes a unit of fuel
     pub does-turn : {A : Type 0} {next : A → Point} {P : A → typed.State → (ℕ → Value) → Store → Type 0} (b : ℕ) (t : Point) (n : Mark) (registers : ℕ → Value) (store : Store) (w : World) (fuel : ℕ) (run : Run A) → Begins f.blocks.items b t

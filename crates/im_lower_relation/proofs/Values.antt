@@ -1,5 +1,5 @@
 -- Block code of an expression gives the expression's value.
-use Rattle.std.proofs.Common.{◌≡◌, ℕ, suc, ◌+◌, ◌<◌, List, [], ◌∷◌, length, take, drop, true, false, refl, sym, ap, ◌∙◌, subst, arith}
+use Rattle.std.proofs.Common.{◌≡◌, ℕ, suc, ◌+◌, ◌<◌, ◌≤◌, List, [], ◌∷◌, length, take, drop, Bool, true, false, refl, sym, ap, ◌∙◌, subst, arith}
 use Rattle.std.specs.Prelude.{Option, Some, None, ℤ, pos, not, if◌then◌else◌, slice_get}
 use Rattle.std.specs.Option.{option_map}
 use Rattle.im_num.specs.declared.kind.Kind.{Kind}
@@ -17,7 +17,7 @@ use Rattle.im_typed.specs.Runs.{World, Answer, Gives, Stops, Run, checked, eithe
 use Rattle.im_typed.specs.Runs as typed
 use Rattle.im_typed.specs.Values.{Values, used, write_at, truth}
 use Rattle.im_typed.specs.Meaning.{Around, place_of, value_of, values_of}
-use Rattle.im_typed.specs.Typing.{InPlace, IsPart, shape_of, result_shape, IsTypedPlace, IsTyped, AreArguments, parameters}
+use Rattle.im_typed.specs.Typing.{InPlace, IsPart, IsScalarShape, shape_of, result_shape, IsTypedPlace, IsTyped, AreArguments, parameters}
 use Rattle.im_typed.specs.Sound.{IsValue, Fits}
 use Rattle.im_typed.proofs.Sounds.{value-kept}
 use Rattle.im_typed.proofs.SoundExprs.{takes-kind}
@@ -30,13 +30,13 @@ use Rattle.im_block.specs.declared.unit.Function.{Function}
 use Rattle.im_block.specs.declared.unit.Unit.{Unit as Code}
 use Rattle.im_block.specs.Meaning as m
 use Rattle.im_block.specs.Meaning.{Setting, Frame, State, with_register, condition}
-use Rattle.im_lower_relation.specs.Codes.{Point, before, ends, Begins, above, count_of, cells_of_shape, offset_in, reads_of, writes_of, where_of, CodesPlace, Codes, CodesArguments}
-use Rattle.im_lower_relation.specs.Agrees.{Agrees, Home, Mark, moved, at, Does, HasOne, Holds, Came, CameAs}
+use Rattle.im_lower_relation.specs.Codes.{Point, before, ends, Begins, above, count_of, cells_of_shape, offset_in, reads_of, writes_of, where_of, CodesPlace, Codes, CodesArguments, CodesTestBy, CodesTest}
+use Rattle.im_lower_relation.specs.Agrees.{Agrees, Home, Mark, moved, at, Follows, Does, HasOne, Holds, Came, CameAs}
 use Rattle.im_lower_relation.proofs.Structs.{struct-line, part-line, copy-lines, part-cell, part-cells, struct-place, part-shape, if-used}
-use Rattle.im_lower_relation.proofs.Steps.{Right, does-whole, does-bind, does-checked, does-weaker, joined}
+use Rattle.im_lower_relation.proofs.Steps.{Right, does-later, does-whole, does-bind, does-checked, does-weaker, joined}
 use Rattle.im_lower_relation.proofs.Stores.{agree-moved, agree-pointer, taken-kept}
-use Rattle.im_lower_relation.proofs.Uses.{register-same, register-other, number-value, condition-of, Took, does-line, does-jump, does-arm, does-branch, arrived, stands, does-used, does-number, checks}
-use Rattle.im_lower_relation.proofs.Operands.{converted-same, computed-same, compared-values, moved-same, distance-same, negated, truth-condition, integer-shape, scalar-shape, right-kind, right-same, not-not, one-of_kind}
+use Rattle.im_lower_relation.proofs.Uses.{register-same, register-other, number-value, condition-of, Took, does-line, does-jump, does-arm, branches, arrived, stands, does-used, does-number, checks}
+use Rattle.im_lower_relation.proofs.Operands.{converted-same, computed-same, compared-values, moved-same, distance-same, negated, integer-shape, scalar-shape, right-kind, right-same, one-of_kind}
 use Rattle.im_lower_relation.proofs.Places.{above-more, Stood, place-kept, designates}
 use Rattle.im_lower_relation.proofs.Cells.{read-line, right-reading, assigned, change-lines, move-lines}
 use Rattle.im_lower_relation.proofs.Ready.{HasArguments, Ready, Works, ready-known, ready-took, right-of, right-at, right-placed, right-arguments}
@@ -61,6 +61,12 @@ pub record Passed (registers : ℕ → Value) (free many : ℕ) (vs : List Value
   pub count : length vs ≡ many
   pub has : HasArguments after free vs
 
+-- behind a test: the registers below free are as they were
+pub record Decided (p : q.Prog) (f : q.Func) (c : Around) (bound : ℕ) (s : typed.State) (registers : ℕ → Value) (free : ℕ) (t : typed.State) (after : ℕ → Value) (store : Store) : Type 0 where
+  pub ready : Ready p f c bound t store
+  pub spent : t.fuel ≤ s.fuel
+  pub kept : (x : ℕ) → x < free → after x ≡ registers x
+
 module _ (u : Code) (g : Setting) (p : q.Prog) (f : q.Func) (c : Around) (bound : ℕ) (works : Works u g p c bound) (k : ℕ) (callers : List Frame) (fn : Function) (is : slice_get u.functions.items k ≡ Some fn) (virtual : fn.registers ≡ Virtual) where
   abbrev pub home : Home
   home = record { function = k; active = record { number = c.activation; depth = c.depth }; callers = callers }
@@ -82,24 +88,6 @@ module _ (u : Code) (g : Setting) (p : q.Prog) (f : q.Func) (c : Around) (bound 
       → Does u g p home next b (CameAs (shape_of p e) registers to free) (value_of c e s) → Does u g p home next b (Took p.statics s kind registers to free) (typed.goes_on (value_of c e s) used)
   used-as {kind = kind} e s same t r h = does-used u g p home {kind = kind} (right-as e s same t r) (as-shape same h)
 
-  -- the operand that decides `&&` and `||` where the first one doesn't: it is negated twice
-  second-truth : (to free j x : ℕ) (more next : Point) (base after : ℕ → Value) (left : Store) (n : Mark) (w : typed.State) (kind : Kind) (r : Answer Values) → to < free → Begins blocks j next
-      → ((i : ℕ) → i < free → (i ≡ to → ⊥) → after i ≡ base i)
-      → Does u g p home (before (Not free free) (before (Not to free) (ends (Jump j)))) (at home (moved n x) more after left w) (Took p.statics w kind after free (free + 1)) (typed.goes_on r used)
-      → Does u g p home next (at home (moved n x) more after left w) (Came base to free) (typed.goes_on (typed.goes_on r used) (λ y. truth (holds y)))
-  second-truth to free j x more next base after left n w kind r lt begins kept does =
-      does-bind u g p home does (λ y z n₂ after₂ left₂ took₂.
-      let none : Value = Number (if not (holds y) then pos 1 else pos 0) in
-      let rs : ℕ → Value = with_register after₂ free none in
-      does-line u g p home (Not free free) (before (Not to free) (ends (Jump j))) n₂ after₂ left₂ z free (m.as_truth (m.negation left₂ (after₂ free))) none refl
-      (negated left₂ (after₂ free) (holds y) (ap (condition left₂) took₂.has ∙ condition-of z.world.activations z.world.store left₂ kind y took₂.agrees took₂.value took₂.taken))
-      (does-line u g p home (Not to free) (ends (Jump j)) n₂ rs left₂ z to (m.as_truth (m.negation left₂ (rs free))) (Number (if holds y then pos 1 else pos 0)) refl
-      (negated left₂ (rs free) (not (holds y)) (ap (condition left₂) (register-same after₂ free none) ∙ truth-condition left₂ (not (holds y)))
-      ∙ ap (λ i. Fine (Number (if i then pos 1 else pos 0))) (not-not (holds y)))
-      (does-jump u g p home fn is j next n₂ (with_register rs to (Number (if holds y then pos 1 else pos 0))) left₂ z begins
-      (arrived u g p home next (moved n₂ j) base rs to free (Number (if holds y then pos 1 else pos 0)) left₂ z took₂.agrees
-      (λ i l ne. register-other after₂ free i none (λ e. omega arith) ∙ took₂.kept i (omega arith) (λ e. omega arith) ∙ kept i l ne)))))
-
   -- an operator gives its result, or the run ends
   does-operator : {next : Point} {b : State} {Q : Values → typed.State → (ℕ → Value) → Store → Type 0} (op : BinaryOp) (kind : Kind) (x y : ℤ) (t : typed.State) (rest : ℤ → Run Values) → ((z : ℤ) → apply op kind x y ≡ Fine z → Does u g p home next b Q (rest z t)) → Does u g p home next b Q (typed.goes_on (c.operates op kind x y t) rest)
   does-operator {next} {b} {Q} op kind x y t rest h =
@@ -109,6 +97,150 @@ module _ (u : Code) (g : Setting) (p : q.Prog) (f : q.Func) (c : Around) (bound 
   abbrev Gains : q.Expr → (to free : ℕ) → (entry next : Point) → Type 0
   Gains e to free entry next =
       (n : Mark) (registers : ℕ → Value) (store : Store) (s : typed.State) → Ready p f c bound s store → Does u g p home next (at home n entry registers store s) (CameAs (shape_of p e) registers to free) (value_of c e s)
+
+  abbrev Lowers : q.Expr → Type 0
+  Lowers e = (to free : ℕ) (entry next : Point) → to < free → Codes p c.first blocks e to free entry next → Gains e to free entry next
+
+  abbrev Behind : typed.State → (ℕ → Value) → ℕ → typed.State → (ℕ → Value) → Store → Type 0
+  Behind s registers free t after left = Decided p f c bound s registers free t after left
+
+  -- a test goes on at one of two points
+  abbrev pub Tests : q.Expr → ℕ → (entry one other : Point) → Type 0
+  Tests e free entry one other =
+      (n : Mark) (registers : ℕ → Value) (store : Store) (s : typed.State) → Ready p f c bound s store
+      → Follows u g p home (λ v. if holds v then one else other) (at home n entry registers store s) (λ v. Behind s registers free) (typed.goes_on (value_of c e s) used)
+
+  -- a value decides, by a branch
+  by-value : (e : q.Expr) (free x y : ℕ) (entry one other : Point) → Gains e free (free + 1) entry (ends (Branch free x y)) → IsTyped p f e → IsScalarShape (shape_of p e) → Begins blocks x one → Begins blocks y other → Tests e free entry one other
+  by-value e free x y entry one other gains t scalar begins_one begins_other n registers store s ready =
+      let k = scalar-shape (shape_of p e) scalar in
+      does-whole u g p home
+      (does-bind u g p home
+      (used-as e s k.1 t ready (gains n registers store s ready))
+      (λ v w n₁ after left took.
+      does-later u g p home
+      (branches u g p home fn is free x y one other n₁ after left w (holds v) begins_one begins_other
+      (ap (condition left) took.has ∙ condition-of w.world.activations w.world.store left k.0 v took.agrees took.value took.taken))
+      (stands u g p home (λ v. if holds v then one else other) (moved n₁ (if holds v then x else y)) after left w v (record {
+        ready = ready-took p f c bound ready took;
+        spent = took.spent;
+        kept = λ i l. took.kept i (omega arith) (λ e. omega arith);
+      }))))
+
+  -- a truth value, at the point where it leads
+  abbrev point_of : Point → Point → Values → Point
+  point_of one other [] = other
+  point_of one other (v ∷ vs) = if holds v then one else other
+
+  record Shown (s : typed.State) (registers : ℕ → Value) (free : ℕ) (vs : Values) (t : typed.State) (after : ℕ → Value) (left : Store) : Type 0 where
+    answer : Bool
+    same : vs ≡ Number (if answer then pos 1 else pos 0) ∷ []
+    behind : Behind s registers free t after left
+
+  shows : (one other : Point) (s : typed.State) (base : ℕ → Value) (free : ℕ) (answer : Bool) (n : Mark) (after : ℕ → Value) (left : Store) (t : typed.State) → Behind s base free t after left
+      → Follows u g p home (point_of one other) (at home n (if answer then one else other) after left t) (Shown s base free) (truth answer t)
+  shows one other s base free true n after left t behind =
+      stands u g p home (point_of one other) n after left t (Number (pos 1) ∷ []) (record { answer = true; same = refl; behind = behind })
+  shows one other s base free false n after left t behind =
+      stands u g p home (point_of one other) n after left t (Number (pos 0) ∷ []) (record { answer = false; same = refl; behind = behind })
+
+  shows-not : (one other : Point) (s : typed.State) (base : ℕ → Value) (free : ℕ) (answer : Bool) (n : Mark) (after : ℕ → Value) (left : Store) (t : typed.State) → Behind s base free t after left
+      → Follows u g p home (point_of one other) (at home n (if answer then other else one) after left t) (Shown s base free) (truth (not answer) t)
+  shows-not one other s base free true n after left t behind = shows one other s base free false n after left t behind
+  shows-not one other s base free false n after left t behind = shows one other s base free true n after left t behind
+
+  uses-shown : (one other : Point) (s : typed.State) (base : ℕ → Value) (free : ℕ) (vs : Values) (n : Mark) (after : ℕ → Value) (left : Store) (t : typed.State) → Shown s base free vs t after left
+      → Follows u g p home (λ v. if holds v then one else other) (at home n (point_of one other vs) after left t) (λ v. Behind s base free) (used vs t)
+  uses-shown one other s base free vs n after left t shown =
+      subst (λ ws. Follows u g p home (λ v. if holds v then one else other) (at home n (point_of one other ws) after left t) (λ v. Behind s base free) (used ws t)) (sym shown.same)
+      (by-answer shown.answer)
+    where
+      by-answer : (answer : Bool) → Follows u g p home (λ v. if holds v then one else other) (at home n (if holds (Number (if answer then pos 1 else pos 0)) then one else other) after left t) (λ v. Behind s base free) (used (Number (if answer then pos 1 else pos 0) ∷ []) t)
+      by-answer true = stands u g p home (λ v. if holds v then one else other) n after left t (Number (pos 1)) shown.behind
+      by-answer false = stands u g p home (λ v. if holds v then one else other) n after left t (Number (pos 0)) shown.behind
+
+  -- a test whose value is a truth value
+  by-truth : (e : q.Expr) (free : ℕ) (entry one other : Point)
+      → ((n : Mark) (registers : ℕ → Value) (store : Store) (s : typed.State) → Ready p f c bound s store → Follows u g p home (point_of one other) (at home n entry registers store s) (Shown s registers free) (value_of c e s))
+      → Tests e free entry one other
+  by-truth e free entry one other does n registers store s ready =
+      does-bind u g p home (does n registers store s ready)
+      (λ vs t n₁ after left shown. uses-shown one other s registers free vs n₁ after left t shown)
+
+  -- the left operand of `&&` or `||`, and the right one where that doesn't decide
+  abbrev Ends : {A : Type 0} → (A → Point) → (A → typed.State → (ℕ → Value) → Store → Type 0) → (one other : Point) → typed.State → (ℕ → Value) → ℕ → (Bool → Run A) → Type 0
+  Ends next P one other s base free ends_with =
+      (answer : Bool) (n : Mark) (after : ℕ → Value) (left : Store) (t : typed.State) → Behind s base free t after left → Follows u g p home next (at home n (if answer then one else other) after left t) P (ends_with answer t)
+
+  behind-more : {s t v : typed.State} {base after after₂ : ℕ → Value} {free : ℕ} {left left₂ : Store} → Behind s base free t after left → Behind t after free v after₂ left₂ → Behind s base free v after₂ left₂
+  behind-more one two =
+      let spent = one.spent in
+      let more = two.spent in
+      record { ready = two.ready; spent = omega arith; kept = λ i l. two.kept i l ∙ one.kept i l }
+
+  second : {A : Type 0} {next : A → Point} {P : A → typed.State → (ℕ → Value) → Store → Type 0} (b : q.Expr) (free : ℕ) (more one other : Point) (ends_with : Bool → Run A) (s t : typed.State) (base after : ℕ → Value) (left : Store) (n : Mark)
+      → Tests b free more one other → Ends next P one other s base free ends_with → Behind s base free t after left
+      → Follows u g p home next (at home n more after left t) P (typed.goes_on (typed.goes_on (value_of c b t) used) (λ y. ends_with (holds y)))
+  second b free more one other ends_with s t base after left n tests go behind =
+      does-bind u g p home (tests n after left t behind.ready)
+      (λ y v n₁ after₁ left₁ behind₁. go (holds y) n₁ after₁ left₁ v (behind-more behind behind₁))
+
+  and-goes : {A : Type 0} {next : A → Point} {P : A → typed.State → (ℕ → Value) → Store → Type 0} (a b : q.Expr) (free : ℕ) (entry more one other : Point) (ends_with : Bool → Run A) (n : Mark) (registers : ℕ → Value) (store : Store) (s : typed.State)
+      → Tests a free entry more other → Tests b free more one other → Ready p f c bound s store → Ends next P one other s registers free ends_with
+      → Follows u g p home next (at home n entry registers store s) P (typed.goes_on (typed.goes_on (value_of c a s) used) (λ x. either (holds x) (λ t. typed.goes_on (typed.goes_on (value_of c b t) used) (λ y. ends_with (holds y))) (ends_with false)))
+  and-goes {next = next} {P = P} a b free entry more one other ends_with n registers store s tests_a tests_b ready go =
+      does-bind u g p home (tests_a n registers store s ready)
+      (λ x t n₁ after left behind. by-answer (holds x) t n₁ after left behind)
+    where
+      by-answer : (answer : Bool) (t : typed.State) (n : Mark) (after : ℕ → Value) (left : Store) → Behind s registers free t after left
+          → Follows u g p home next (at home n (if answer then more else other) after left t) P (either answer (λ t. typed.goes_on (typed.goes_on (value_of c b t) used) (λ y. ends_with (holds y))) (ends_with false) t)
+      by-answer true t n after left behind = second b free more one other ends_with s t registers after left n tests_b go behind
+      by-answer false t n after left behind = go false n after left t behind
+
+  or-goes : {A : Type 0} {next : A → Point} {P : A → typed.State → (ℕ → Value) → Store → Type 0} (a b : q.Expr) (free : ℕ) (entry more one other : Point) (ends_with : Bool → Run A) (n : Mark) (registers : ℕ → Value) (store : Store) (s : typed.State)
+      → Tests a free entry one more → Tests b free more one other → Ready p f c bound s store → Ends next P one other s registers free ends_with
+      → Follows u g p home next (at home n entry registers store s) P (typed.goes_on (typed.goes_on (value_of c a s) used) (λ x. either (holds x) (ends_with true) (λ t. typed.goes_on (typed.goes_on (value_of c b t) used) (λ y. ends_with (holds y)))))
+  or-goes {next = next} {P = P} a b free entry more one other ends_with n registers store s tests_a tests_b ready go =
+      does-bind u g p home (tests_a n registers store s ready)
+      (λ x t n₁ after left behind. by-answer (holds x) t n₁ after left behind)
+    where
+      by-answer : (answer : Bool) (t : typed.State) (n : Mark) (after : ℕ → Value) (left : Store) → Behind s registers free t after left
+          → Follows u g p home next (at home n (if answer then one else more) after left t) P (either answer (ends_with true) (λ t. typed.goes_on (typed.goes_on (value_of c b t) used) (λ y. ends_with (holds y))) t)
+      by-answer true t n after left behind = go true n after left t behind
+      by-answer false t n after left behind = second b free more one other ends_with s t registers after left n tests_b go behind
+
+  -- the blocks of a truth value put it into the register
+  abbrev puts : ℕ → ℕ → ℤ → Point
+  puts to j z = before (Put to z) (ends (Jump j))
+
+  gives-truth : (to free j : ℕ) (next : Point) (s : typed.State) (base : ℕ → Value) → to < free → Begins blocks j next
+      → Ends (λ vs. next) (Came base to free) (puts to j (pos 1)) (puts to j (pos 0)) s base free truth
+  gives-truth to free j next s base lt begins answer n after left t behind = by-answer answer
+    where
+      number : (z : ℤ) → Does u g p home next (at home n (puts to j z) after left t) (Came base to free) (Gives (Number z ∷ []) t)
+      number z =
+          does-line u g p home (Put to z) (ends (Jump j)) n after left t to (Fine (Number z)) (Number z) refl refl
+          (does-jump u g p home fn is j next n (with_register after to (Number z)) left t begins
+          (arrived u g p home next (moved n j) base after to free (Number z) left t behind.ready.agrees (λ i l ne. behind.kept i l)))
+
+      by-answer : (answer : Bool) → Does u g p home next (at home n (if answer then puts to j (pos 1) else puts to j (pos 0)) after left t) (Came base to free) (truth answer t)
+      by-answer true = number (pos 1)
+      by-answer false = number (pos 0)
+
+  -- a test decides between two runs
+  pub decided : {A : Type 0} {next : A → Point} {P : A → typed.State → (ℕ → Value) → Store → Type 0} (e : q.Expr) (free : ℕ) (entry one other : Point) (n : Mark) (registers : ℕ → Value) (store : Store) (s : typed.State) (a b : Run A)
+      → Tests e free entry one other → Ready p f c bound s store
+      → ((i : Mark) (rs : ℕ → Value) (left : Store) (t : typed.State) → Decided p f c bound s registers free t rs left → Follows u g p home next (at home i one rs left t) P (a t))
+      → ((i : Mark) (rs : ℕ → Value) (left : Store) (t : typed.State) → Decided p f c bound s registers free t rs left → Follows u g p home next (at home i other rs left t) P (b t))
+      → Follows u g p home next (at home n entry registers store s) P (typed.goes_on (typed.goes_on (value_of c e s) used) (λ v. either (holds v) a b))
+  decided {next = next} {P = P} e free entry one other n registers store s a b tests ready held failed =
+      does-bind u g p home (tests n registers store s ready)
+      (λ v t n₁ after left behind. by-answer (holds v) t n₁ after left behind)
+    where
+      by-answer : (answer : Bool) (t : typed.State) (n : Mark) (after : ℕ → Value) (left : Store) → Behind s registers free t after left
+          → Follows u g p home next (at home n (if answer then one else other) after left t) P (either answer a b t)
+      by-answer true t n after left behind = held n after left t behind
+      by-answer false t n after left behind = failed n after left t behind
 
   mutual
     placed : (a : q.Place) (free : ℕ) (entry next : Point) → IsTypedPlace p f a → CodesPlace p c.first blocks a free entry next
@@ -214,53 +346,26 @@ module _ (u : Code) (g : Setting) (p : q.Prog) (f : q.Func) (c : Around) (bound 
         does-bind u g p home (lowered a to free entry next lt t codes n registers store s ready)
         (λ vs v n₁ after left came. stands u g p home (λ _. next) n₁ after left v [] (record { agrees = came.agrees; kept = came.kept; has = tt }))
     lowered (q.Choose x a b) to free entry next lt t codes n registers store s ready =
-        let k = scalar-shape (shape_of p x) t.3 in
-        does-bind u g p home
-        (used-as x s k.1 t.0 ready
-        (lowered x free (free + 1) entry (ends (Branch free codes.1 codes.2)) (omega arith) t.0 codes.8 n registers store s ready))
-        (λ v w n₁ after left took.
-        does-branch u g p home fn is free codes.1 codes.2 codes.3 codes.4 n₁ after left w _ _ (holds v) codes.6 codes.7
-        (ap (condition left) took.has ∙ condition-of w.world.activations w.world.store left k.0 v took.agrees took.value took.taken)
-        (does-arm u g p home fn is codes.0 next codes.5
-        (does-weaker u g p home (λ ws y after₂ left₂ came. record { agrees = came.agrees; kept = λ i l ne. came.kept i l ne ∙ took.kept i (omega arith) (λ e. omega arith); has = came.has })
-        (lowered a to free codes.3 (ends (Jump codes.0)) lt t.1 codes.9 (moved n₁ codes.1) after left w (ready-took p f c bound ready took))))
-        (does-arm u g p home fn is codes.0 next codes.5
-        (does-weaker u g p home (λ ws y after₂ left₂ came. record { agrees = came.agrees; kept = λ i l ne. came.kept i l ne ∙ took.kept i (omega arith) (λ e. omega arith); has = came.has })
-        (as-shape (sym t.4) (lowered b to free codes.4 (ends (Jump codes.0)) lt t.2 codes.10 (moved n₁ codes.2) after left w (ready-took p f c bound ready took))))))
+        decided x free entry codes.3 codes.4 n registers store s (value_of c a) (value_of c b)
+        (tested-by x (λ to free entry next lt codes. lowered x to free entry next lt t.0 codes) free codes.1 codes.2 entry codes.3 codes.4 t.0 t.3 codes.8 codes.6 codes.7) ready
+        (λ i after left w behind.
+        does-arm u g p home fn is codes.0 next codes.5
+        (does-weaker u g p home (λ ws y after₂ left₂ came. record { agrees = came.agrees; kept = λ i l ne. came.kept i l ne ∙ behind.kept i l; has = came.has })
+        (lowered a to free codes.3 (ends (Jump codes.0)) lt t.1 codes.9 i after left w behind.ready)))
+        (λ i after left w behind.
+        does-arm u g p home fn is codes.0 next codes.5
+        (does-weaker u g p home (λ ws y after₂ left₂ came. record { agrees = came.agrees; kept = λ i l ne. came.kept i l ne ∙ behind.kept i l; has = came.has })
+        (as-shape (sym t.4) (lowered b to free codes.4 (ends (Jump codes.0)) lt t.2 codes.10 i after left w behind.ready))))
     lowered (q.And a b) to free entry next lt t codes n registers store s ready =
-        let ka = scalar-shape (shape_of p a) t.2 in
-        let kb = scalar-shape (shape_of p b) t.3 in
-        does-bind u g p home
-        (used-as a s ka.1 t.0 ready
-        (lowered a free (free + 1) entry (ends (Branch free codes.1 codes.2)) (omega arith) t.0 codes.7 n registers store s ready))
-        (λ v w n₁ after left took.
-        does-branch u g p home fn is free codes.1 codes.2 codes.3 (before (Put to (pos 0)) (ends (Jump codes.0))) n₁ after left w _ _ (holds v) codes.5 codes.6
-        (ap (condition left) took.has ∙ condition-of w.world.activations w.world.store left ka.0 v took.agrees took.value took.taken)
-        (second-truth to free codes.0 codes.1 codes.3 next registers after left n₁ w kb.0 (value_of c b w) lt codes.4
-        (λ i l ne. took.kept i (omega arith) (λ e. omega arith))
-        (used-as b w kb.1 t.1 (ready-took p f c bound ready took)
-        (lowered b free (free + 1) codes.3 (before (Not free free) (before (Not to free) (ends (Jump codes.0)))) (omega arith) t.1 codes.8 (moved n₁ codes.1) after left w (ready-took p f c bound ready took))))
-        (does-line u g p home (Put to (pos 0)) (ends (Jump codes.0)) (moved n₁ codes.2) after left w to (Fine (Number (pos 0))) (Number (pos 0)) refl refl
-        (does-jump u g p home fn is codes.0 next (moved n₁ codes.2) (with_register after to (Number (pos 0))) left w codes.4
-        (arrived u g p home next (moved n₁ codes.0) registers after to free (Number (pos 0)) left w took.agrees
-        (λ i l ne. took.kept i (omega arith) (λ e. omega arith))))))
+        and-goes a b free entry codes.4 (puts to codes.0 (pos 1)) (puts to codes.0 (pos 0)) truth n registers store s
+        (tested-by a (λ to free entry next lt codes. lowered a to free entry next lt t.0 codes) free codes.3 codes.2 entry codes.4 (puts to codes.0 (pos 0)) t.0 t.2 codes.9 codes.8 codes.7)
+        (tested-by b (λ to free entry next lt codes. lowered b to free entry next lt t.1 codes) free codes.1 codes.2 codes.4 (puts to codes.0 (pos 1)) (puts to codes.0 (pos 0)) t.1 t.3 codes.10 codes.6 codes.7)
+        ready (gives-truth to free codes.0 next s registers lt codes.5)
     lowered (q.Or a b) to free entry next lt t codes n registers store s ready =
-        let ka = scalar-shape (shape_of p a) t.2 in
-        let kb = scalar-shape (shape_of p b) t.3 in
-        does-bind u g p home
-        (used-as a s ka.1 t.0 ready
-        (lowered a free (free + 1) entry (ends (Branch free codes.2 codes.1)) (omega arith) t.0 codes.7 n registers store s ready))
-        (λ v w n₁ after left took.
-        does-branch u g p home fn is free codes.2 codes.1 (before (Put to (pos 1)) (ends (Jump codes.0))) codes.3 n₁ after left w _ _ (holds v) codes.6 codes.5
-        (ap (condition left) took.has ∙ condition-of w.world.activations w.world.store left ka.0 v took.agrees took.value took.taken)
-        (does-line u g p home (Put to (pos 1)) (ends (Jump codes.0)) (moved n₁ codes.2) after left w to (Fine (Number (pos 1))) (Number (pos 1)) refl refl
-        (does-jump u g p home fn is codes.0 next (moved n₁ codes.2) (with_register after to (Number (pos 1))) left w codes.4
-        (arrived u g p home next (moved n₁ codes.0) registers after to free (Number (pos 1)) left w took.agrees
-        (λ i l ne. took.kept i (omega arith) (λ e. omega arith)))))
-        (second-truth to free codes.0 codes.1 codes.3 next registers after left n₁ w kb.0 (value_of c b w) lt codes.4
-        (λ i l ne. took.kept i (omega arith) (λ e. omega arith))
-        (used-as b w kb.1 t.1 (ready-took p f c bound ready took)
-        (lowered b free (free + 1) codes.3 (before (Not free free) (before (Not to free) (ends (Jump codes.0)))) (omega arith) t.1 codes.8 (moved n₁ codes.1) after left w (ready-took p f c bound ready took)))))
+        or-goes a b free entry codes.4 (puts to codes.0 (pos 1)) (puts to codes.0 (pos 0)) truth n registers store s
+        (tested-by a (λ to free entry next lt codes. lowered a to free entry next lt t.0 codes) free codes.1 codes.3 entry (puts to codes.0 (pos 1)) codes.4 t.0 t.2 codes.9 codes.6 codes.8)
+        (tested-by b (λ to free entry next lt codes. lowered b to free entry next lt t.1 codes) free codes.1 codes.2 codes.4 (puts to codes.0 (pos 1)) (puts to codes.0 (pos 0)) t.1 t.3 codes.10 codes.6 codes.7)
+        ready (gives-truth to free codes.0 next s registers lt codes.5)
     lowered (q.Assign (q.Scalar kind) a e) to free entry next lt t codes n registers store s ready =
         let more = above-more a free in
         does-bind u g p home
@@ -569,3 +674,28 @@ module _ (u : Code) (g : Setting) (p : q.Prog) (f : q.Func) (c : Around) (bound 
           count = ap suc passed.count;
           has = (passed.kept free (omega arith) ∙ took.has, subst (λ i. HasArguments after₂ i vs) next_one passed.has);
         })))
+
+    tested-by : (e : q.Expr) → Lowers e → (free x y : ℕ) (entry one other : Point) → IsTyped p f e → IsScalarShape (shape_of p e) → CodesTestBy p c.first blocks e (Codes p c.first blocks e) free x y entry → Begins blocks x one → Begins blocks y other → Tests e free entry one other
+    tested-by (q.Not a) value free x y entry one other t scalar codes begins_one begins_other =
+        by-truth (q.Not a) free entry one other (λ n registers store s ready.
+        does-bind u g p home
+        (tested-by a (λ to free entry next lt codes. lowered a to free entry next lt t.0 codes) free y x entry other one t.0 t.1 codes begins_other begins_one n registers store s ready)
+        (λ v w n₁ after left behind. shows-not one other s registers free (holds v) n₁ after left w behind))
+    tested-by (q.And a b) value free x y entry one other t scalar codes begins_one begins_other =
+        by-truth (q.And a b) free entry one other (λ n registers store s ready.
+        and-goes a b free entry codes.1 one other truth n registers store s
+        (tested-by a (λ to free entry next lt codes. lowered a to free entry next lt t.0 codes) free codes.0 y entry codes.1 other t.0 t.2 codes.3 codes.2 begins_other)
+        (tested-by b (λ to free entry next lt codes. lowered b to free entry next lt t.1 codes) free x y codes.1 one other t.1 t.3 codes.4 begins_one begins_other)
+        ready (λ answer i rs left w behind. shows one other s registers free answer i rs left w behind))
+    tested-by (q.Or a b) value free x y entry one other t scalar codes begins_one begins_other =
+        by-truth (q.Or a b) free entry one other (λ n registers store s ready.
+        or-goes a b free entry codes.1 one other truth n registers store s
+        (tested-by a (λ to free entry next lt codes. lowered a to free entry next lt t.0 codes) free x codes.0 entry one codes.1 t.0 t.2 codes.3 begins_one codes.2)
+        (tested-by b (λ to free entry next lt codes. lowered b to free entry next lt t.1 codes) free x y codes.1 one other t.1 t.3 codes.4 begins_one begins_other)
+        ready (λ answer i rs left w behind. shows one other s registers free answer i rs left w behind))
+    tested-by e value free x y entry one other t scalar codes begins_one begins_other =
+        by-value e free x y entry one other (value free (free + 1) entry (ends (Branch free x y)) (omega arith) codes) t scalar begins_one begins_other
+
+  pub tested : (e : q.Expr) (free x y : ℕ) (entry one other : Point) → IsTyped p f e → IsScalarShape (shape_of p e) → CodesTest p c.first blocks e free x y entry → Begins blocks x one → Begins blocks y other → Tests e free entry one other
+  tested e free x y entry one other t scalar codes begins_one begins_other =
+      tested-by e (λ to free entry next lt codes. lowered e to free entry next lt t codes) free x y entry one other t scalar codes begins_one begins_other

@@ -106,16 +106,16 @@ module _ (g : p.Prog) (first : ℕ) (blocks : List Block) where
         (m : Point) × Codes a free (free + 1) s m × Codes b (free + 1) (free + 2) m (before (Compare to op kind free (free + 1)) t)
     Codes (p.Not a) to free s t = Codes a free (free + 1) s (before (Not to free) t)
     Codes (p.And a b) to free s t =
-        (j x y : ℕ) × (more : Point) × Begins blocks j t × Begins blocks x more × Begins blocks y (before (Put to (pos 0)) (ends (Jump j)))
-        × Codes a free (free + 1) s (ends (Branch free x y))
-        × Codes b free (free + 1) more (before (Not free free) (before (Not to free) (ends (Jump j))))
+        (j x y k : ℕ) × (more : Point) × Begins blocks j t × Begins blocks x (before (Put to (pos 1)) (ends (Jump j)))
+        × Begins blocks y (before (Put to (pos 0)) (ends (Jump j))) × Begins blocks k more
+        × CodesTestBy a (Codes a) free k y s × CodesTestBy b (Codes b) free x y more
     Codes (p.Or a b) to free s t =
-        (j x y : ℕ) × (more : Point) × Begins blocks j t × Begins blocks x more × Begins blocks y (before (Put to (pos 1)) (ends (Jump j)))
-        × Codes a free (free + 1) s (ends (Branch free y x))
-        × Codes b free (free + 1) more (before (Not free free) (before (Not to free) (ends (Jump j))))
+        (j x y k : ℕ) × (more : Point) × Begins blocks j t × Begins blocks x (before (Put to (pos 1)) (ends (Jump j)))
+        × Begins blocks y (before (Put to (pos 0)) (ends (Jump j))) × Begins blocks k more
+        × CodesTestBy a (Codes a) free x k s × CodesTestBy b (Codes b) free x y more
     Codes (p.Choose q a b) to free s t =
         (j x y : ℕ) × (one other : Point) × Begins blocks j t × Begins blocks x one × Begins blocks y other
-        × Codes q free (free + 1) s (ends (Branch free x y)) × Codes a to free one (ends (Jump j)) × Codes b to free other (ends (Jump j))
+        × CodesTestBy q (Codes q) free x y s × Codes a to free one (ends (Jump j)) × Codes b to free other (ends (Jump j))
     Codes (p.Comma a b) to free s t = (m : Point) × Codes a free (free + 1) s m × Codes b to free m t
     Codes (p.Discard a) to free s t = Codes a to free s t
     Codes (p.Assign (p.Scalar kind) a e) to free s t =
@@ -160,3 +160,16 @@ module _ (g : p.Prog) (first : ℕ) (blocks : List Block) where
     pub CodesArguments : p.Exprs → ℕ → Point → Point → Type 0
     CodesArguments p.no_exprs free s t = s ≡ t
     CodesArguments (p.more_exprs e rest) free s t = (m : Point) × Codes e free (free + 1) s m × CodesArguments rest (free + 1) m t
+
+    -- a test, by what its expression becomes as a value: the register from which on they are free, the blocks where it goes on
+    -- if it holds and if it doesn't, and the point of entry. `!`, `&&` and `||` are control flow (C11 6.5.3.3, 6.5.13, 6.5.14)
+    pub CodesTestBy : p.Expr → (ℕ → ℕ → Point → Point → Type 0) → ℕ → (holds fails : ℕ) → Point → Type 0
+    CodesTestBy (p.Not a) value free holds fails s = CodesTestBy a (Codes a) free fails holds s
+    CodesTestBy (p.And a b) value free holds fails s =
+        (k : ℕ) × (more : Point) × Begins blocks k more × CodesTestBy a (Codes a) free k fails s × CodesTestBy b (Codes b) free holds fails more
+    CodesTestBy (p.Or a b) value free holds fails s =
+        (k : ℕ) × (more : Point) × Begins blocks k more × CodesTestBy a (Codes a) free holds k s × CodesTestBy b (Codes b) free holds fails more
+    CodesTestBy e value free holds fails s = value free (free + 1) s (ends (Branch free holds fails))
+
+  abbrev pub CodesTest : p.Expr → ℕ → (holds fails : ℕ) → Point → Type 0
+  CodesTest e free holds fails s = CodesTestBy e (Codes e) free holds fails s

@@ -15,7 +15,7 @@ use Rattle.im_block.specs.declared.code.Line.{Line}
 use Rattle.im_block.specs.declared.code.Line.TheVariants.{Put, PutNull, Compare, Write}
 use Rattle.im_block.specs.declared.code.Exit.TheVariants.{Jump, Turn, Branch, Return}
 use Rattle.im_block.specs.declared.code.Block.{Block}
-use Rattle.im_lower_relation.specs.Codes.{Point, before, ends, Begins, reads_of, writes_of, Codes}
+use Rattle.im_lower_relation.specs.Codes.{Point, before, ends, Begins, reads_of, writes_of, Codes, CodesTest}
 
 -- zero or null, into a register
 abbrev pub zero_line : ℕ → Kind → Line
@@ -81,18 +81,18 @@ module _ (g : p.Prog) (first low : ℕ) (objects : List p.LocalObject) (blocks :
     CodesStatement (p.Block ss) breaks continues s t = (qs : List Point) × CodesStatements ss breaks continues s qs t
     CodesStatement (p.If q a b) breaks continues s t =
         (j x y : ℕ) × (one other : Point) × Begins blocks j t × Begins blocks x one × Begins blocks y other
-        × Codes g first blocks q low (low + 1) s (ends (Branch low x y))
+        × CodesTest g first blocks q low x y s
         × CodesStatement a breaks continues one (ends (Jump j)) × CodesStatement b breaks continues other (ends (Jump j))
     CodesStatement (p.While q a) breaks continues s t =
         (j k h b : ℕ) × (test body : Point) × Begins blocks j t × Begins blocks k (ends (Turn b)) × Begins blocks h test × Begins blocks b body
-        × (s ≡ ends (Jump h)) × Codes g first blocks q low (low + 1) test (ends (Branch low k j)) × CodesStatement a j h body (ends (Jump h))
+        × (s ≡ ends (Jump h)) × CodesTest g first blocks q low k j test × CodesStatement a j h body (ends (Jump h))
     CodesStatement (p.DoWhile a q) breaks continues s t =
         (j k h b : ℕ) × (test body : Point) × Begins blocks j t × Begins blocks k (ends (Turn b)) × Begins blocks h test × Begins blocks b body
-        × (s ≡ ends (Jump k)) × Codes g first blocks q low (low + 1) test (ends (Branch low k j)) × CodesStatement a j h body (ends (Jump h))
+        × (s ≡ ends (Jump k)) × CodesTest g first blocks q low k j test × CodesStatement a j h body (ends (Jump h))
     CodesStatement (p.For a q step c) breaks continues s t =
         (j k h l b : ℕ) × (test next body : Point)
         × Begins blocks j t × Begins blocks k (ends (Turn b)) × Begins blocks h test × Begins blocks l next × Begins blocks b body
-        × CodesStatement a breaks continues s (ends (Jump h)) × Codes g first blocks q low (low + 1) test (ends (Branch low k j))
+        × CodesStatement a breaks continues s (ends (Jump h)) × CodesTest g first blocks q low k j test
         × Codes g first blocks step low (low + 1) next (ends (Jump h)) × CodesStatement c j l body (ends (Jump l))
     CodesStatement (p.Switch e ks otherwise ss) breaks continues s t =
         (j : ℕ) × (m start : Point) × (qs : List Point) × Begins blocks j t × Codes g first blocks e low (low + 1) s m

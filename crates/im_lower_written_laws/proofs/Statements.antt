@@ -15,10 +15,10 @@ use Rattle.im_block.specs.declared.code.Line.TheVariants.{Put, Compare, Write}
 use Rattle.im_block.specs.declared.code.Exit.TheVariants.{Jump, Turn, Branch, Return}
 use Rattle.im_block.specs.declared.code.Block.{Block}
 use Rattle.im_alloc_relation.specs.Live.{uses, sets}
-use Rattle.im_lower_relation.specs.Codes.{Point, before, ends, Begins, Codes}
+use Rattle.im_lower_relation.specs.Codes.{Point, before, ends, Begins, Codes, CodesTest}
 use Rattle.im_lower_relation.specs.Statements.{zero_line, kind_in, start_at, CodesRest, Passes, CodesCases, CodesPiece, CodesPieces, CodesReturn, CodesStatement, CodesStatements}
 use Rattle.im_lower_written_laws.proofs.Ways.{Or, OrPlace, unplaced, Allows, weaker, lower, sets_none, sets_two, writes, writes_row, reads_row, at_block, as_turn, jump, branch}
-use Rattle.im_lower_written_laws.proofs.Values.{allows}
+use Rattle.im_lower_written_laws.proofs.Values.{allows, test_allows}
 
 pub strong : (P : ℕ → Type 0) → ((i : ℕ) → ((m : ℕ) → m < i → P m) → P i) → (i : ℕ) → P i
 strong P h i = h i (λ m less. up_to i m less)
@@ -108,7 +108,7 @@ module _ (low : ℕ) (blocks : List Block) where
   -- a loop: its test, its edge's block, its body
   module _ (n j k h b : ℕ) (t test body : Point) (at_edge : Begins blocks k (ends (Turn b))) (at_test : Begins blocks h test) (at_body : Begins blocks b body) (at_end : Begins blocks j t) where
     abbrev pub TestCalm : Type 0
-    TestCalm = (m : ℕ) → m ≤ n → Allows blocks m (ends (Branch low k j)) (Or low (Below low)) → Calm m test
+    TestCalm = (m : ℕ) → m ≤ n → Calm m (ends (Jump k)) → Calm m (ends (Jump j)) → Calm m test
 
     abbrev pub BodyCalm : Type 0
     BodyCalm = (m : ℕ) → m ≤ n → Calm m (ends (Jump h)) → Calm m (ends (Jump j)) → Calm m body
@@ -124,7 +124,7 @@ module _ (low : ℕ) (blocks : List Block) where
 
     pub loop_calm : TestCalm → BodyCalm → Calm n t → (i : ℕ) → i ≤ n → Calm i test
     loop_calm tested turned out i = strong (λ m. m ≤ n → Calm m test) (λ m rec less. tested m less
-        (branch blocks m low k j (Below low) (edge turned out m less (λ q lq. rec q lq (omega (arith, lq, less)))) (leaves out m less))) i
+        (edge turned out m less (λ q lq. rec q lq (omega (arith, lq, less)))) (leaves out m less)) i
 
     pub edge_calm : TestCalm → BodyCalm → Calm n t → Calm n (ends (Jump k))
     edge_calm tested turned out = edge turned out n (omega arith) (λ m less. loop_calm tested turned out m (omega (arith, less)))
@@ -132,6 +132,9 @@ module _ (low : ℕ) (blocks : List Block) where
 module _ (g : p.Prog) (f : p.Func) (first low : ℕ) (objects : List p.LocalObject) (blocks : List Block) where
   expression_calm : (e : p.Expr) (s t : Point) (n : ℕ) → Codes g first blocks e low (low + 1) s t → Allows blocks n t (Or low (Below low)) → Calm low blocks n s
   expression_calm e s t n c h = allows g first blocks e low (low + 1) s t n (Below low) c h
+
+  test_calm : (e : p.Expr) (x y : ℕ) (s : Point) (n : ℕ) → CodesTest g first blocks e low x y s → Calm low blocks n (ends (Jump x)) → Calm low blocks n (ends (Jump y)) → Calm low blocks n s
+  test_calm e x y s n c h k = test_allows g first blocks e low x y s n (Below low) c h k
 
   pieces_calm : (object : ℕ) (ps : List p.Piece) (s t : Point) (n : ℕ) → CodesPieces g first low objects blocks object ps s t → Calm low blocks n t → Calm low blocks n s
   pieces_calm object [] s t n c h = subst (λ z. Calm low blocks n z) (sym c) h
@@ -165,18 +168,18 @@ module _ (g : p.Prog) (f : p.Func) (first low : ℕ) (objects : List p.LocalObje
         let joined : Calm low blocks n (ends (Jump c.0)) = jump blocks n c.0 t (Below low) c.5 h in
         let one = statement_calm a bs cs breaks continues c.3 (ends (Jump c.0)) n ty.1 c.9 joined hb hc in
         let other = statement_calm b bs cs breaks continues c.4 (ends (Jump c.0)) n ty.2 c.10 joined hb hc in
-        expression_calm q s _ n c.8 (branch blocks n low c.1 c.2 (Below low) (jump blocks n c.1 c.3 (Below low) c.6 one) (jump blocks n c.2 c.4 (Below low) c.7 other))
+        test_calm q c.1 c.2 s n c.8 (jump blocks n c.1 c.3 (Below low) c.6 one) (jump blocks n c.2 c.4 (Below low) c.7 other)
     statement_calm (p.While q a) bs cs breaks continues s t n ty c h hb hc =
-        let tested : TestCalm low blocks n c.0 c.1 c.2 c.3 t c.4 c.5 c.7 c.8 c.9 c.6 = (λ m less y. expression_calm q c.4 _ m c.11 y) in
+        let tested : TestCalm low blocks n c.0 c.1 c.2 c.3 t c.4 c.5 c.7 c.8 c.9 c.6 = (λ m less y z. test_calm q c.1 c.0 c.4 m c.11 y z) in
         let turned : BodyCalm low blocks n c.0 c.1 c.2 c.3 t c.4 c.5 c.7 c.8 c.9 c.6 = (λ m less again out. statement_calm a true true c.0 c.2 c.5 (ends (Jump c.2)) m ty.1 c.12 again (λ y. out) (λ y. again)) in
         let calm = loop_calm low blocks n c.0 c.1 c.2 c.3 t c.4 c.5 c.7 c.8 c.9 c.6 tested turned h n (omega arith) in
         subst (λ z. Calm low blocks n z) (sym c.10) (jump blocks n c.2 c.4 (Below low) c.8 calm)
     statement_calm (p.DoWhile a q) bs cs breaks continues s t n ty c h hb hc =
-        let tested : TestCalm low blocks n c.0 c.1 c.2 c.3 t c.4 c.5 c.7 c.8 c.9 c.6 = (λ m less y. expression_calm q c.4 _ m c.11 y) in
+        let tested : TestCalm low blocks n c.0 c.1 c.2 c.3 t c.4 c.5 c.7 c.8 c.9 c.6 = (λ m less y z. test_calm q c.1 c.0 c.4 m c.11 y z) in
         let turned : BodyCalm low blocks n c.0 c.1 c.2 c.3 t c.4 c.5 c.7 c.8 c.9 c.6 = (λ m less again out. statement_calm a true true c.0 c.2 c.5 (ends (Jump c.2)) m ty.0 c.12 again (λ y. out) (λ y. again)) in
         subst (λ z. Calm low blocks n z) (sym c.10) (edge_calm low blocks n c.0 c.1 c.2 c.3 t c.4 c.5 c.7 c.8 c.9 c.6 tested turned h)
     statement_calm (p.For a q after d) bs cs breaks continues s t n ty c h hb hc =
-        let tested : TestCalm low blocks n c.0 c.1 c.2 c.4 t c.5 c.7 c.9 c.10 c.12 c.8 = (λ m less y. expression_calm q c.5 _ m c.14 y) in
+        let tested : TestCalm low blocks n c.0 c.1 c.2 c.4 t c.5 c.7 c.9 c.10 c.12 c.8 = (λ m less y z. test_calm q c.1 c.0 c.5 m c.14 y z) in
         let stepped : (m : ℕ) → Calm low blocks m (ends (Jump c.2)) → Calm low blocks m (ends (Jump c.3)) = (λ m again. jump blocks m c.3 c.6 (Below low) c.11 (expression_calm after c.6 (ends (Jump c.2)) m c.15 (or_low low blocks m (ends (Jump c.2)) again))) in
         let turned : BodyCalm low blocks n c.0 c.1 c.2 c.4 t c.5 c.7 c.9 c.10 c.12 c.8 = (λ m less again out. statement_calm d true true c.0 c.3 c.7 (ends (Jump c.3)) m ty.3 c.16 (stepped m again) (λ y. out) (λ y. stepped m again)) in
         let calm = loop_calm low blocks n c.0 c.1 c.2 c.4 t c.5 c.7 c.9 c.10 c.12 c.8 tested turned h n (omega arith) in

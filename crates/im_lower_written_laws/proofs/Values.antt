@@ -1,6 +1,6 @@
 -- The code of an expression reads no register first; that which takes its value is written.
 use Rattle.std.proofs.Common.{◌≡◌, ℕ, suc, ◌+◌, ◌<◌, ◌≤◌, ◌⊎◌, inl, inr, true, false, List, refl, sym, subst, arith}
-use Rattle.std.specs.Prelude.{pos, ◌&&◌, ◌==◌, nat_le, nat_lt, slice_get, Some, None}
+use Rattle.std.specs.Prelude.{ℤ, pos, ◌&&◌, ◌==◌, nat_le, nat_lt, slice_get, Some, None}
 use Rattle.std.proofs.lemmas.Bool.{and_parts, cases_Bool, eqb-false, ltb-true, leb-true}
 use Rattle.im_num.specs.declared.kind.Kind.TheVariants.{Ptr}
 use Rattle.im_typed.specs.declared.expression.Change.TheVariants.{Number as NumberBy, Move as PointerBy}
@@ -9,9 +9,9 @@ use Rattle.im_typed.specs.Typing.{shape_of}
 use Rattle.im_block.specs.declared.code.Place.{Place}
 use Rattle.im_block.specs.declared.code.Place.TheVariants.{Static, Local, Through}
 use Rattle.im_block.specs.declared.code.Line.TheVariants.{Put, PutNull, Convert, Unary, Not, Compute, Compare, Move, Distance, Address, Read, Call, Serve}
-use Rattle.im_block.specs.declared.code.Exit.TheVariants.{Jump}
+use Rattle.im_block.specs.declared.code.Exit.TheVariants.{Jump, Branch}
 use Rattle.im_block.specs.declared.code.Block.{Block}
-use Rattle.im_lower_relation.specs.Codes.{Point, before, ends, above, cells_of_shape, offset_in, count_of, where_of, CodesPlace, Codes, CodesArguments}
+use Rattle.im_lower_relation.specs.Codes.{Point, before, ends, Begins, above, cells_of_shape, offset_in, count_of, where_of, CodesPlace, Codes, CodesArguments, CodesTest}
 use Rattle.im_lower_written_laws.proofs.Ways.{Or, OrPlace, OrRow, unplaced, placed_once, named_once, nearer, Allows, weaker, step, without, sets_none, sets_one, sets_two, sets_placed, writes, writes_row, reads_row, jump, branch}
 
 row_bounds : (from count v : ℕ) → (nat_le from v && nat_lt v (from + count)) ≡ true → (from ≤ v) × (v < from + count)
@@ -35,6 +35,14 @@ row_apart from count P v (inr f) (inl b) =
 row_apart from count P v (inr f) (inr q) = inr (inr q)
 
 module _ (g : p.Prog) (first : ℕ) (blocks : List Block) where
+  -- the block of a truth value, which goes on at another
+  truth_allows : (to j : ℕ) (z : ℤ) (t : Point) (n : ℕ) (P : ℕ → Type 0) → Begins blocks j t → Allows blocks n t (Or to P) → Allows blocks n (before (Put to z) (ends (Jump j))) P
+  truth_allows to j z t n P begins h =
+      sets_none blocks n (Put to z) to (ends (Jump j)) P (λ v. refl) (λ v. refl) (jump blocks n j t (Or to P) begins h)
+
+  abbrev ValueAllows : p.Expr → Type 1
+  ValueAllows e = (to free : ℕ) (s t : Point) (n : ℕ) (P : ℕ → Type 0) → Codes g first blocks e to free s t → Allows blocks n t (Or to P) → Allows blocks n s P
+
   mutual
     pub place_allows : (a : p.Place) (free : ℕ) (s m : Point) (n : ℕ) (P : ℕ → Type 0) → CodesPlace g first blocks a free s m → Allows blocks n m (OrPlace (where_of g first blocks a free) P) → Allows blocks n s P
     place_allows (p.Static x) free s m n P c h = subst (λ z. Allows blocks n z P) (sym c) (weaker blocks n m (OrPlace (Static x 0) P) P h (λ v q. unplaced P v q))
@@ -80,27 +88,25 @@ module _ (g : p.Prog) (first : ℕ) (blocks : List Block) where
     allows (p.Not a) to free s t n P c h =
         allows a free (free + 1) s _ n P c (sets_one blocks n (Not to free) free to t P (λ v. refl) (λ v. refl) h)
     allows (p.And a b) to free s t n P c h =
-        let j = c.0 in
-        let joined : Allows blocks n (ends (Jump j)) (Or to P) = jump blocks n j t (Or to P) c.4 h in
-        let known : Allows blocks n (before (Put to (pos 0)) (ends (Jump j))) P = sets_none blocks n (Put to (pos 0)) to (ends (Jump j)) P (λ v. refl) (λ v. refl) joined in
-        let truth : Allows blocks n (before (Not to free) (ends (Jump j))) (Or free P) = sets_one blocks n (Not to free) free to (ends (Jump j)) P (λ v. refl) (λ v. refl) joined in
-        let turned : Allows blocks n (before (Not free free) (before (Not to free) (ends (Jump j)))) (Or free P) = sets_one blocks n (Not free free) free free (before (Not to free) (ends (Jump j))) P (λ v. refl) (λ v. refl) truth in
-        let more = allows b free (free + 1) c.3 _ n P c.8 turned in
-        allows a free (free + 1) s _ n P c.7 (branch blocks n free c.1 c.2 P (jump blocks n c.1 c.3 P c.5 more) (jump blocks n c.2 _ P c.6 known))
+        let one = truth_allows to c.0 (pos 1) t n P c.5 h in
+        let none = truth_allows to c.0 (pos 0) t n P c.5 h in
+        let holds = jump blocks n c.1 _ P c.6 one in
+        let fails = jump blocks n c.2 _ P c.7 none in
+        let more = test_by_allows b (λ to free s t n P c h. allows b to free s t n P c h) free c.1 c.2 c.4 n P c.10 holds fails in
+        test_by_allows a (λ to free s t n P c h. allows a to free s t n P c h) free c.3 c.2 s n P c.9 (jump blocks n c.3 c.4 P c.8 more) fails
     allows (p.Or a b) to free s t n P c h =
-        let j = c.0 in
-        let joined : Allows blocks n (ends (Jump j)) (Or to P) = jump blocks n j t (Or to P) c.4 h in
-        let known : Allows blocks n (before (Put to (pos 1)) (ends (Jump j))) P = sets_none blocks n (Put to (pos 1)) to (ends (Jump j)) P (λ v. refl) (λ v. refl) joined in
-        let truth : Allows blocks n (before (Not to free) (ends (Jump j))) (Or free P) = sets_one blocks n (Not to free) free to (ends (Jump j)) P (λ v. refl) (λ v. refl) joined in
-        let turned : Allows blocks n (before (Not free free) (before (Not to free) (ends (Jump j)))) (Or free P) = sets_one blocks n (Not free free) free free (before (Not to free) (ends (Jump j))) P (λ v. refl) (λ v. refl) truth in
-        let more = allows b free (free + 1) c.3 _ n P c.8 turned in
-        allows a free (free + 1) s _ n P c.7 (branch blocks n free c.2 c.1 P (jump blocks n c.2 _ P c.6 known) (jump blocks n c.1 c.3 P c.5 more))
+        let one = truth_allows to c.0 (pos 1) t n P c.5 h in
+        let none = truth_allows to c.0 (pos 0) t n P c.5 h in
+        let holds = jump blocks n c.1 _ P c.6 one in
+        let fails = jump blocks n c.2 _ P c.7 none in
+        let more = test_by_allows b (λ to free s t n P c h. allows b to free s t n P c h) free c.1 c.2 c.4 n P c.10 holds fails in
+        test_by_allows a (λ to free s t n P c h. allows a to free s t n P c h) free c.1 c.3 s n P c.9 holds (jump blocks n c.3 c.4 P c.8 more)
     allows (p.Choose q a b) to free s t n P c h =
         let j = c.0 in
         let joined : Allows blocks n (ends (Jump j)) (Or to P) = jump blocks n j t (Or to P) c.5 h in
         let one = allows a to free c.3 (ends (Jump j)) n P c.9 joined in
         let other = allows b to free c.4 (ends (Jump j)) n P c.10 joined in
-        allows q free (free + 1) s _ n P c.8 (branch blocks n free c.1 c.2 P (jump blocks n c.1 c.3 P c.6 one) (jump blocks n c.2 c.4 P c.7 other))
+        test_by_allows q (λ to free s t n P c h. allows q to free s t n P c h) free c.1 c.2 s n P c.8 (jump blocks n c.1 c.3 P c.6 one) (jump blocks n c.2 c.4 P c.7 other)
     allows (p.Comma a b) to free s t n P c h =
         allows a free (free + 1) s c.0 n P c.1 (weaker blocks n c.0 P (Or free P) (allows b to free c.0 t n P c.2 h) (λ v q. inr q))
     allows (p.Discard a) to free s t n P c h = allows a to free s t n P c h
@@ -194,3 +200,17 @@ module _ (g : p.Prog) (first : ℕ) (blocks : List Block) where
     arguments_allow (p.more_exprs e rest) free s t n P c h =
         allows e free (free + 1) s c.0 n P c.1 (arguments_allow rest (free + 1) c.0 t n (Or free P) c.2
         (weaker blocks n t _ _ h (λ v q. row_apart free (count_of rest) P v (cases_Bool (v == free)) q)))
+
+    -- a test writes the register that takes its value, and goes on at one of two blocks
+    test_by_allows : (e : p.Expr) → ValueAllows e → (free x y : ℕ) (s : Point) (n : ℕ) (P : ℕ → Type 0) → CodesTest g first blocks e free x y s → Allows blocks n (ends (Jump x)) P → Allows blocks n (ends (Jump y)) P → Allows blocks n s P
+    test_by_allows (p.Not a) value free x y s n P c h k = test_by_allows a (λ to free s t n P c h. allows a to free s t n P c h) free y x s n P c k h
+    test_by_allows (p.And a b) value free x y s n P c h k =
+        let more = test_by_allows b (λ to free s t n P c h. allows b to free s t n P c h) free x y c.1 n P c.4 h k in
+        test_by_allows a (λ to free s t n P c h. allows a to free s t n P c h) free c.0 y s n P c.3 (jump blocks n c.0 c.1 P c.2 more) k
+    test_by_allows (p.Or a b) value free x y s n P c h k =
+        let more = test_by_allows b (λ to free s t n P c h. allows b to free s t n P c h) free x y c.1 n P c.4 h k in
+        test_by_allows a (λ to free s t n P c h. allows a to free s t n P c h) free x c.0 s n P c.3 h (jump blocks n c.0 c.1 P c.2 more)
+    test_by_allows e value free x y s n P c h k = value free (free + 1) s (ends (Branch free x y)) n P c (branch blocks n free x y P h k)
+
+  pub test_allows : (e : p.Expr) (free x y : ℕ) (s : Point) (n : ℕ) (P : ℕ → Type 0) → CodesTest g first blocks e free x y s → Allows blocks n (ends (Jump x)) P → Allows blocks n (ends (Jump y)) P → Allows blocks n s P
+  test_allows e free x y s n P c h k = test_by_allows e (λ to free s t n P c h. allows e to free s t n P c h) free x y s n P c h k

@@ -1,5 +1,5 @@
 -- Each line but a copy to itself has a word, and so have each block and each function's entry.
-use Rattle.std.proofs.Common.{◌≡◌, ◌<◌, ◌≤◌, inl, inr, ℕ, ℤ, zero, suc, ◌+◌, ◌*◌, ◌-◌, ◌^◌, Bool, true, false, List, [], ◌∷◌, ◌++◌, Option, Some, None, length, take, refl, ap, ◌∙◌, arith, length-append}
+use Rattle.std.proofs.Common.{◌≡◌, ◌<◌, ◌≤◌, inl, inr, ℕ, ℤ, zero, suc, ◌+◌, ◌*◌, ◌-◌, ◌/◌, ◌^◌, Bool, true, false, List, [], ◌∷◌, ◌++◌, Option, Some, None, length, take, max, refl, ap, ◌∙◌, arith, length-append}
 use Rattle.std.specs.Prelude.{◌==◌, ◌&&◌, if◌then◌else◌, slice_get}
 use Rattle.std.proofs.lemmas.Bool.Decides.{nat_tests}
 use Rattle.std.proofs.lemmas.List.{take_all}
@@ -26,12 +26,15 @@ use Rattle.im_block.specs.declared.code.Block.{Block}
 use Rattle.im_block.specs.declared.unit.Unit.{Unit as Code}
 use Rattle.im_block.specs.Shape.{sum_of}
 use Rattle.im_frame.specs.declared.layout.Layout.{Layout}
+use Rattle.im_select_relation.specs.Jumps.{jump_of, one_if, jumps_in, are_few}
+use Rattle.im_select.specs.Leads.{lead, led, kept}
 use Rattle.im_select.specs.declared.branching.Test.{Test}
 use Rattle.im_select.specs.declared.branching.Test.TheVariants.{Compares}
 use Rattle.im_select.specs.declared.distance.Distance.{Distance as Reach}
 use Rattle.im_select.specs.declared.distance.Distance.TheVariants.{Near, Far}
-use Rattle.im_select.specs.Emitted.{constant_by, high_of, low_of, moved_code, copied_code, converted_code, unary_code, compared_code, scaled_code, place_code, displaced_code, place_number, based_code, address_code, word_taken, passed_by, line_code, lines_code, behind_each, adds_code, enter_code, onward_code, test_code, test_or, taken_test, own_lines, is_next, branch_code, exit_code, is_empty, ended_code, labelled, block_code, others_below, laid_order, Laying, next_label, found_code, laid_block, laid_code, blocks_code, prologue_code, function_code, entry_label}
+use Rattle.im_select.specs.Emitted.{constant_by, high_of, low_of, moved_code, copied_code, converted_code, unary_code, compared_code, scaled_code, place_code, displaced_code, place_number, based_code, address_code, word_taken, passed_by, line_code, lines_code, behind_each, adds_code, enter_code, onward_code, test_code, test_or, taken_test, own_lines, is_next, branch_code, exit_code, is_empty, ended_code, labelled, block_code, others_below, laid_order, kept_order, Laying, leads_of, next_label, found_code, laid_block, laid_code, blocks_code, prologue_code, function_code, entry_label}
 use Rattle.im_select.specs.Selects.{laying_of}
+use Rattle.im_select.proofs.Following.{LeadsOn, lead_away}
 use Rattle.im_select.proofs.Pairing.{lines_alone, lines_paired, folds}
 use Rattle.im_select.proofs.Parts.{word_cases}
 use Rattle.im_select.proofs.Taking.{IsTaken, Nothing, Comparing, takes}
@@ -42,7 +45,7 @@ use Rattle.im_link.proofs.Joining.{first_whole}
 use Rattle.im_link_laws.specs.Program.{IsProgram, part_of, start_code, given_at}
 use Rattle.im_link_laws.proofs.Runtimes.{size_of}
 use Rattle.im_select_relation.specs.Law.{is_nothing}
-use Rattle.im_select_executes.specs.Executing.{line_halves, block_words, function_words}
+use Rattle.im_select_executes.specs.Executing.{line_halves, words_by, block_words, jump_words, function_words}
 
 append_some : (xs : List CodeLine) (y : CodeLine) (ys : List CodeLine) → 0 < length (xs ++ y ∷ ys)
 append_some [] y ys = omega arith
@@ -183,50 +186,65 @@ sum_append w [] ys = omega arith
 sum_append w (x ∷ xs) ys = let h = sum_append w xs ys in omega arith
 
 -- a comparison that the exit takes is paid by its branch
-tail_some : (live : ℕ → ℕ → Bool) (distance : Reach) (next : Option ℕ) (bare : Bool) (first frame : ℕ) (tail : List Line) (exit : Exit) (taken : Option Test) → IsTaken live tail exit taken → sum_of line_halves tail ≤ 2 * length (exit_code distance next bare first frame taken exit)
-tail_some live distance next bare first frame tail exit taken (Nothing exit') = omega arith
-tail_some live distance next bare first frame tail exit taken (Comparing to op kind left right x y p q) = let some = branch_some distance next (Compares op kind left right) (first + x) (first + y) in omega arith
+tail_some : (live : ℕ → ℕ → Bool) (leads : ℕ → ℕ) (distance : Reach) (next : Option ℕ) (bare : Bool) (first frame : ℕ) (tail : List Line) (exit : Exit) (taken : Option Test) → IsTaken live tail exit taken → sum_of line_halves tail ≤ 2 * length (exit_code distance next bare first frame taken (led leads exit))
+tail_some live leads distance next bare first frame tail exit taken (Nothing exit') = omega arith
+tail_some live leads distance next bare first frame tail exit taken (Comparing to op kind left right x y p q) = let some = branch_some distance next (Compares op kind left right) (first + leads x) (first + leads y) in omega arith
 
-block_some : (at : Name → ℕ) (m : ℕ → ℕ) (live : ℕ → ℕ → Bool) (distance : Reach) (next : Option ℕ) (first frame b : ℕ) (block : Block) → block_words block ≤ length (block_code at m live distance next first frame b block)
-block_some at m live distance next first frame b block =
+-- what a block is worth, where those that only jump are few or not
+abbrev worth : Bool → Block → ℕ
+worth true block = block_words block
+worth false block = block_words block + one_if (jump_of block.lines.items block.exit)
+
+worth_most : (few : Bool) (block : Block) → worth few block ≤ max 1 ((sum_of line_halves block.lines.items + 1) / 2)
+worth_most few block = by few (jump_of block.lines.items block.exit)
+  where
+    by : (t : Bool) (o : Option ℕ) → (if t then words_by o block.lines.items else words_by o block.lines.items + one_if o) ≤ max 1 ((sum_of line_halves block.lines.items + 1) / 2)
+    by true None = omega arith
+    by true (Some c) = omega arith
+    by false None = omega arith
+    by false (Some c) = omega arith
+
+block_some : (at : Name → ℕ) (m : ℕ → ℕ) (live : ℕ → ℕ → Bool) (leads : ℕ → ℕ) (distance : Reach) (next : Option ℕ) (first frame b : ℕ) (few : Bool) (block : Block) → worth few block ≤ length (block_code at m live leads distance next first frame b block)
+block_some at m live leads distance next first frame b few block =
     let taken : Option Test = taken_test live block.lines.items block.exit in
     let own : List Line = own_lines taken block.lines.items in
     let t = takes live block.lines.items block.exit in
     let needed : ℕ → ℕ → Bool = behind_each live block.lines.items block.exit in
     let lines : List CodeLine = lines_code at m needed None 0 own in
-    let ends : List CodeLine = exit_code distance next (is_empty lines) first frame taken block.exit in
+    let ends : List CodeLine = exit_code distance next (is_empty lines) first frame taken (led leads block.exit) in
+    let most = worth_most few block in
     let a = lines_some at m needed 0 own in
-    let rest = tail_some live distance next (is_empty lines) first frame t.tail block.exit taken t.is in
+    let rest = tail_some live leads distance next (is_empty lines) first frame t.tail block.exit taken t.is in
     let sum = sum_append line_halves own t.tail in
     let all = ap (sum_of line_halves) t.whole in
-    let e = ended_some distance next first frame taken lines block.exit in
+    let e = ended_some distance next first frame taken lines (led leads block.exit) in
     let l = length-append lines ends in
     let s = same_count (first + b) (lines ++ ends) in
     omega arith
 
 -- ---- as they are laid
 
-abbrev words_in : Option Block → ℕ
-words_in None = 0
-words_in (Some block) = block_words block
+abbrev words_in : Bool → Option Block → ℕ
+words_in few None = 0
+words_in few (Some block) = worth few block
 
 -- of block b, if it is there
-abbrev words_at : List Block → ℕ → ℕ
-words_at blocks b = words_in (slice_get blocks b)
+abbrev words_at : Bool → List Block → ℕ → ℕ
+words_at few blocks b = words_in few (slice_get blocks b)
 
-laid_some : (laying : Laying) (order : List ℕ) → sum_of (words_at laying.blocks) order ≤ length (laid_code laying order)
-laid_some laying [] = omega arith
-laid_some laying (b ∷ order) =
+laid_some : (laying : Laying) (few : Bool) (order : List ℕ) → sum_of (words_at few laying.blocks) order ≤ length (laid_code laying order)
+laid_some laying few [] = omega arith
+laid_some laying few (b ∷ order) =
     let a = by (slice_get laying.blocks b) in
-    let r = laid_some laying order in
+    let r = laid_some laying few order in
     let l = length-append (laid_block laying b order) (laid_code laying order) in
     omega arith
   where
-    by : (o : Option Block) → words_in o ≤ length (found_code laying b (next_label laying.first order) o)
+    by : (o : Option Block) → words_in few o ≤ length (found_code laying b (next_label laying.first order) o)
     by None = omega arith
-    by (Some block) = block_some laying.at (laying.cut b) laying.live laying.distance (next_label laying.first order) laying.first laying.frame b block
+    by (Some block) = block_some laying.at (laying.cut b) laying.live (leads_of laying) laying.distance (next_label laying.first order) laying.first laying.frame b few block
 
-module _ (blocks : List Block) (entry : ℕ) where
+module _ (few : Bool) (blocks : List Block) (entry : ℕ) where
   abbrev upto : ℕ → ℕ
   upto zero = 0
   upto (suc n) = words_at blocks n + upto n
@@ -255,26 +273,52 @@ module _ (blocks : List Block) (entry : ℕ) where
           omega arith
       by false e rest = omega arith
 
-upto_more : (block : Block) (blocks : List Block) (entry n : ℕ) → upto (block ∷ blocks) entry (suc n) ≡ block_words block + upto blocks entry n
-upto_more block blocks entry zero = omega arith
-upto_more block blocks entry (suc n) = let k = upto_more block blocks entry n in omega arith
+upto_more : (few : Bool) (block : Block) (blocks : List Block) (entry n : ℕ) → upto few (block ∷ blocks) entry (suc n) ≡ worth few block + upto few blocks entry n
+upto_more few block blocks entry zero = omega arith
+upto_more few block blocks entry (suc n) = let k = upto_more few block blocks entry n in omega arith
 
-all_upto : (blocks : List Block) (entry : ℕ) → sum_of block_words blocks ≡ upto blocks entry (length blocks)
-all_upto [] entry = refl
-all_upto (block ∷ blocks) entry =
-    let k = all_upto blocks entry in
-    let more = upto_more block blocks entry (length blocks) in
+all_upto : (few : Bool) (blocks : List Block) (entry : ℕ) → sum_of (worth few) blocks ≡ upto few blocks entry (length blocks)
+all_upto few [] entry = refl
+all_upto few (block ∷ blocks) entry =
+    let k = all_upto few blocks entry in
+    let more = upto_more few block blocks entry (length blocks) in
     omega arith
 
-blocks_some : (laying : Laying) → sum_of block_words laying.blocks ≤ length (blocks_code laying)
+-- where no line is put for a block, it is worth nothing
+kept_worth : (blocks : List Block) (entry : ℕ) (order : List ℕ) → sum_of (words_at (are_few blocks) blocks) order ≤ sum_of (words_at (are_few blocks) blocks) (kept (lead blocks entry) order)
+kept_worth blocks entry [] = omega arith
+kept_worth blocks entry (x ∷ order) = by (lead blocks entry x == x) refl (kept_worth blocks entry order)
+  where
+    worthless : (few : Bool) (c : ℕ) → few ≡ true → LeadsOn blocks entry x c → words_at few blocks x ≡ 0
+    worthless few c e on =
+        ap (λ t. words_at t blocks x) e ∙ ap (words_in true) on.there
+        ∙ ap (λ z. words_by (jump_of z on.block.exit) z) on.lines ∙ ap (λ z. words_by (jump_of [] z) []) on.exit
+
+    by : (t : Bool) → (lead blocks entry x == x) ≡ t → sum_of (words_at (are_few blocks) blocks) order ≤ sum_of (words_at (are_few blocks) blocks) (kept (lead blocks entry) order) → sum_of (words_at (are_few blocks) blocks) (x ∷ order) ≤ sum_of (words_at (are_few blocks) blocks) (if t then x ∷ kept (lead blocks entry) order else kept (lead blocks entry) order)
+    by true e rest = omega arith
+    by false e rest =
+        let away = lead_away blocks entry x e in
+        let none = worthless (are_few blocks) away.1.0 away.0 away.1.1 in
+        omega arith
+
+sum_worth : (few : Bool) (blocks : List Block) → sum_of block_words blocks + (if few then 0 else jumps_in blocks) ≡ sum_of (worth few) blocks
+sum_worth true [] = refl
+sum_worth true (x ∷ xs) = let h = sum_worth true xs in omega arith
+sum_worth false [] = refl
+sum_worth false (x ∷ xs) = let h = sum_worth false xs in omega arith
+
+blocks_some : (laying : Laying) → sum_of block_words laying.blocks + jump_words laying.blocks ≤ length (blocks_code laying)
 blocks_some laying =
+    let few : Bool = are_few laying.blocks in
     let n : ℕ = length laying.blocks in
-    let a = laid_some laying (laid_order laying.entry n) in
-    let b = with_entry laying.blocks laying.entry n in
-    let c = all_upto laying.blocks laying.entry in
+    let a = laid_some laying few (kept_order laying) in
+    let k = kept_worth laying.blocks laying.entry (laid_order laying.entry n) in
+    let b = with_entry few laying.blocks laying.entry n in
+    let c = all_upto few laying.blocks laying.entry in
+    let s = sum_worth few laying.blocks in
     omega arith
 
-function_some : (i : ℕ) (laying : Laying) → 1 + sum_of block_words laying.blocks ≤ length (function_code i laying)
+function_some : (i : ℕ) (laying : Laying) → 1 + sum_of block_words laying.blocks + jump_words laying.blocks ≤ length (function_code i laying)
 function_some i laying =
     let b = blocks_some laying in
     let l = length-append (labelled (entry_label i) (prologue_code laying.frame)) (blocks_code laying) in

@@ -11,8 +11,7 @@ use Rattle.im_rtlib_laws.specs.Standing.{HasRoutines}
 use Rattle.im_rtlib_laws.specs.Laws.{ServesLaw}
 use Rattle.im_rtlib_laws.proofs.Ran.{heard_seen}
 use Rattle.im_rtlib_laws.proofs.Saving.{Kept, kept_word, kept_quiet, kept_shown, kept_fixed, saving}
-use Rattle.im_rtlib_laws.proofs.Serving.{putchar_law}
-use Rattle.im_rtlib_laws.proofs.Reading.{getchar_law}
+use Rattle.im_rtlib_laws.proofs.Services.{serves}
 
 kept_words : (limit capacity : ℕ) (m k : Mem) → Words limit capacity m → Kept m k → little k 0 4 < 2 → ((a : ℕ) → k a < 256) → Words limit capacity k
 kept_words limit capacity m k w kept index bytes =
@@ -61,7 +60,6 @@ saves r place has few flips e low high m x call =
 
 pub serves_law : ServesLaw
 serves_law r place has few flips = record {
-  puts = λ m x call word. (let s = putchar_law r place has few flips m x call word in (s.done, s.answer));
-  gets = λ m x call. (let s = getchar_law r place has (omega arith) (omega arith) m x call in (s.done, s.answer));
+  serves = serves r place has few flips;
   saves = λ e low high. subst (SavesAt r) (sym (has.entries e low high)) (saves r place has (omega arith) (omega arith) e low high);
 }

@@ -18,6 +18,7 @@ use Rattle.im_rv_reach.specs.Seen.{seen}
 use Rattle.im_rv_reach.specs.Shown.{shown}
 use Rattle.im_rv_reach.specs.Instructions.{Holds, Fixed}
 use Rattle.im_rtlib.specs.Routines.{getchar_label}
+use Rattle.im_serve.specs.declared.service.Service.TheVariants.{Getchar}
 use Rattle.im_rtlib_laws.specs.Standing.{HasRoutines, distance}
 use Rattle.im_rtlib_laws.proofs.Ran.{Ran, at, begins_same, byte_loaded, byte_place, follow, put_step, load_step, store_step}
 use Rattle.im_rtlib_laws.proofs.Saving.{Kept, none_reg, kept_fixed, kept_word}
@@ -41,7 +42,7 @@ pub record GetLines (image : Mem) (place : ℕ → ℕ) (p : ℕ) : Type 0 where
 pub get_lines : (image : Mem) (place : ℕ → ℕ) → HasRoutines image place → GetLines image place (place getchar_label)
 get_lines image place has =
     let p : ℕ = place 32 in
-    let s0 = has.getchar_there in
+    let s0 = has.services_there Getchar in
     let s1 = s0.2 in
     let s2 = s1.2 in
     let s3 = s2.2 in

@@ -8,6 +8,7 @@ pub mod Putting
 pub mod Ran
 pub mod Reading
 pub mod Saving
+pub mod Services
 pub mod Serving
 pub mod Showing
 pub mod Joining

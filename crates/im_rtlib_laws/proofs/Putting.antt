@@ -22,6 +22,7 @@ use Rattle.im_rv_reach.specs.Shown.{shown, Begins}
 use Rattle.im_rv_reach.specs.Instructions.{Holds, Fixed}
 use Rattle.im_rv_reach.proofs.Reach.{length_same}
 use Rattle.im_rtlib.specs.Routines.{putchar_label}
+use Rattle.im_serve.specs.declared.service.Service.TheVariants.{Putchar}
 use Rattle.im_rtlib_laws.specs.Standing.{HasRoutines, distance}
 use Rattle.im_rtlib_laws.proofs.Ran.{Ran, at, begins_same, byte_stored, byte_place, follow, put_step, load_step, store_step}
 use Rattle.im_rtlib_laws.proofs.Saving.{Kept, none_reg, kept_fixed, kept_shown, kept_quiet}
@@ -62,7 +63,7 @@ aims_at image pc a b f e h = subst (λ z. Holds image pc (f (distance pc z))) e 
 pub put_lines : (image : Mem) (place : ℕ → ℕ) → HasRoutines image place → PutLines image place (place putchar_label)
 put_lines image place has =
     let p : ℕ = place 33 in
-    let s0 = has.putchar_there in
+    let s0 = has.services_there Putchar in
     let s1 = s0.2 in
     let s2 = s1.2 in
     let s3 = s2.2 in

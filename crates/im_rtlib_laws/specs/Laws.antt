@@ -1,15 +1,18 @@
 -- What the routines do on the machine, in the form that compiled code assumes, and what they touch.
-use Rattle.std.specs.Prelude.{◌≡◌, ◌<◌, ◌≤◌, ℕ, ◌^◌, true, [], ◌∷◌}
+use Rattle.std.specs.Prelude.{◌≡◌, ◌<◌, ◌≤◌, ℕ, ◌^◌, ℤ, pos, true, [], ◌∷◌}
 use Rattle.im_num.specs.Bytes.{bytes_of}
+use Rattle.im_num.specs.Kinds.{word}
 use Rattle.im_mem.specs.Map.{status_at, reason_at}
 use Rattle.im_mem.specs.Memory.{Mem, written}
+use Rattle.im_serve.specs.declared.service.Service.{Service}
+use Rattle.im_serve.specs.Services.{Reply, row, IsNullary, IsUnary, serve}
 use Rattle.im_rv_reach.specs.Touches.{Stored}
 use Rattle.im_rv_reach.specs.Seen.{seen}
 use Rattle.im_rv_reach.specs.Shown.{shown, left}
 use Rattle.im_rv_reach.specs.Reach.{Stopped}
 use Rattle.im_rv_reach.specs.Instructions.{Fixed}
-use Rattle.im_rv_reach.specs.Routines.{Runtime, Called, Done, PutsAt, GetsAt, SavesAt, put, put_answer, got, got_answer}
-use Rattle.im_rtlib.specs.Routines.{getchar_label, putchar_label, exit_label, stack_label}
+use Rattle.im_rv_reach.specs.Routines.{Runtime, Called, Done, SavesAt, put, put_answer, got, got_answer}
+use Rattle.im_rtlib.specs.Routines.{getchar_label, putchar_label, service_label, exit_label, stack_label}
 use Rattle.im_rtlib_laws.specs.Standing.{HasRoutines}
 use Rattle.im_rtlib_laws.specs.Seen.{put_touches, get_touches, is_tidy}
 
@@ -37,10 +40,15 @@ GetcharLaw =
     (r : Runtime) (place : ℕ → ℕ) → HasRoutines r.image place → 27 ≤ r.longest → 1 ≤ r.flips →
     (m : Mem) (x : ℕ → ℕ) → Called r m x 1 → GetsByte r (place getchar_label) m x
 
--- so the routines, and the checkpoint, whose entry Em has the label m, are as compiled code assumes
+-- a routine at a place has given a reply: the result is in x10
+pub record Replied (r : Runtime) (pc : ℕ) (m : Mem) (x : ℕ → ℕ) (reply : Reply) : Type 0 where
+  pub done : Done r m pc x (x 1) reply.output reply.input
+  pub answer : done.y 10 ≡ word reply.value
+
+-- so the routine of each service does what the table says, of the argument whose word is in x10, and the checkpoint, whose entry Em
+-- has the label m, is as compiled code assumes
 pub record Serves (r : Runtime) (place : ℕ → ℕ) : Type 0 where
-  pub puts : PutsAt r (place putchar_label)
-  pub gets : GetsAt r (place getchar_label)
+  pub serves : (service : Service) (m : Mem) (x : ℕ → ℕ) (z : ℤ) → Called r m x 1 → (IsNullary (row service).parameter → z ≡ pos 0) → (IsUnary (row service).parameter → x 10 ≡ word z) → Replied r (place (service_label service)) m x (serve service r.capacity z (left m) (shown m))
   pub saves : (m : ℕ) → 4 ≤ m → m ≤ 31 → SavesAt r (place m)
 
 abbrev pub ServesLaw : Type 0

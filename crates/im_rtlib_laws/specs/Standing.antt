@@ -5,7 +5,8 @@ use Rattle.im_rv.specs.Decode.{Line}
 use Rattle.im_rv.specs.Lines.{CodeLine}
 use Rattle.im_ckpt.specs.Checkpoint.{checkpoint_start, checkpoint_words, entry_at}
 use Rattle.im_rv_reach.specs.Instructions.{Holds}
-use Rattle.im_rtlib.specs.Routines.{getchar, putchar, exit, stack, getchar_label, putchar_label, exit_label, stack_label}
+use Rattle.im_rtlib.specs.Routines.{routine, exit, stack, service_label, exit_label, stack_label}
+use Rattle.im_serve.specs.declared.service.Service.{Service}
 
 -- how far it is from one address to another, as a word
 abbrev pub distance : ℕ → ℕ → ℕ
@@ -30,7 +31,6 @@ StandFrom image place pc (l ∷ ls) = Holds image pc (aimed_at place pc l.line l
 pub record HasRoutines (image : Mem) (place : ℕ → ℕ) : Type 0 where
   pub checkpoint : Stands image checkpoint_start checkpoint_words
   pub entries : (m : ℕ) → 4 ≤ m → m ≤ 31 → place m ≡ entry_at m
-  pub getchar_there : StandFrom image place (place getchar_label) getchar
-  pub putchar_there : StandFrom image place (place putchar_label) putchar
+  pub services_there : (service : Service) → StandFrom image place (place (service_label service)) (routine service)
   pub exit_there : StandFrom image place (place exit_label) exit
   pub stack_there : StandFrom image place (place stack_label) stack

@@ -9,7 +9,7 @@ use Rattle.im_gap.specs.Flow.{links_by}
 use Rattle.im_link.specs.Parts.{IsPart}
 use Rattle.im_ckpt.specs.Recovery.{recovery}
 use Rattle.im_ckpt.specs.Checkpoint.{checkpoint_code}
-use Rattle.im_rtlib.specs.Routines.{exit}
+use Rattle.im_rtlib.specs.Routines.{routine, exit}
 use Rattle.im_block.specs.declared.code.Block.{Block}
 use Rattle.im_block.specs.declared.unit.Function.{Function}
 use Rattle.im_block.specs.declared.unit.Unit.{Unit as Code}
@@ -21,7 +21,8 @@ use Rattle.im_frame.specs.declared.layout.Layout.{Layout}
 use Rattle.im_select.specs.declared.distance.Distance.{Distance}
 use Rattle.im_select.specs.Emitted.{entry_label, call_code, function_code}
 use Rattle.im_select.specs.Places.{at_of}
-use Rattle.im_link_laws.specs.Program.{HasCode, part_of, first_label, given_at, start_code, IsProgram}
+use Rattle.im_link_laws.specs.Program.{HasCode, routine_part, part_of, first_label, given_at, start_code, IsProgram}
+use Rattle.im_link_laws.proofs.Services.{routine_there, PartAt, ServicePart, StackPart, LaterPart, part_at}
 use Rattle.im_saved_lines.specs.Scan.{is_base, is_returned, After, scan, AreSound}
 use Rattle.im_saved_lines.specs.Laws.{IsLow, IsHeld, SavesFrom, laid}
 use Rattle.im_saved_lines.proofs.Scanning.{both, or_left, or_right, same_is, IsUnsaved, unsaved_true, sound_append}
@@ -122,18 +123,20 @@ module _ (u : Code) (statics : List ℕ) (layouts : List Layout) (parts : List P
 
   -- behind recovery and the checkpoint
   pub part_sound : (p : ℕ) (part : Part) (behind : After) → IsPart parts (suc (suc p)) part → AreSound at (code_lines part.lines.items) behind
-  part_sound zero part behind e = routine_sound 2 part behind _ e program.gets (routine_lines.getchar_sound at low behind)
-  part_sound (suc zero) part behind e = routine_sound 3 part behind _ e program.puts (routine_lines.putchar_sound at low behind)
-  part_sound (suc (suc zero)) part behind e = routine_sound 4 part behind _ e program.stops (routine_lines.stack_sound at low behind)
-  part_sound (suc (suc (suc i))) part behind e = elim (slice_get_cases u.functions.items i).1 [
-    | inl c ↦ (let q : suc (suc (suc (suc (suc i)))) ≡ part_of i = omega arith in function_sound i c.0 c.2 part behind (subst (λ z. IsPart parts z part) q e))
-    | inr c ↦
-        (let le = c.0 in
-        let count = program.count in
-        let within = slice_get_within parts (suc (suc (suc (suc (suc i))))) part e in
-        let q : suc (suc (suc (suc (suc i)))) ≡ part_of (length u.functions.items) = omega arith in
-        routine_sound (part_of (length u.functions.items)) part behind (start_code u.main) (subst (λ z. IsPart parts z part) q e) program.begins (start_sound behind))
-  ]
+  part_sound p part behind e = by (suc (suc p)) (part_at p) e
+    where
+      by : (n : ℕ) → PartAt n → IsPart parts n part → AreSound at (code_lines part.lines.items) behind
+      by n (ServicePart service) e = routine_sound (routine_part service) part behind (routine service) e (routine_there u statics layouts parts program service) (routine_lines.service_sound service at low behind)
+      by n StackPart e = routine_sound 4 part behind _ e program.stops (routine_lines.stack_sound at low behind)
+      by n (LaterPart i) e = elim (slice_get_cases u.functions.items i).1 [
+        | inl c ↦ function_sound i c.0 c.2 part behind e
+        | inr c ↦
+            (let le = c.0 in
+            let count = program.count in
+            let within = slice_get_within parts (part_of i) part e in
+            let q : part_of i ≡ part_of (length u.functions.items) = omega arith in
+            routine_sound (part_of (length u.functions.items)) part behind (start_code u.main) (subst (λ z. IsPart parts z part) q e) program.begins (start_sound behind))
+      ]
 
 -- ---- the runtime's lines
 

@@ -6,18 +6,21 @@ use Rattle.im_rv.specs.declared.instr.Op.TheVariants.{Bgeu, Lw, Sw, Addi}
 use Rattle.im_rv.specs.Lines.{CodeLine, plain_line}
 use Rattle.im_rv_reach.specs.Instructions.{with_immediate, storing, branching}
 use Rattle.im_rtlib.specs.Routines.{stack_label}
+use Rattle.im_block.specs.declared.code.Line.{Line}
+use Rattle.im_block.specs.declared.code.Exit.{Exit}
 use Rattle.im_block.specs.declared.code.Block.{Block}
 use Rattle.im_block.specs.declared.unit.Function.{Function}
 use Rattle.im_block.specs.Wellformed.{LineThere, ExitThere, IsBlock}
 use Rattle.im_alloc_placed.specs.Placed.{IsPlacedBlock}
 use Rattle.im_alloc_placed.specs.Operands.{IsHome}
 use Rattle.im_live.specs.Reads.{lives_before}
-use Rattle.im_select.specs.Emitted.{entry_label, labelled, call_code, adds_code, block_code, laid_order, Laying, next_label, found_code, laid_block, laid_code, blocks_code, enter_code, prologue_code}
+use Rattle.im_select.specs.Emitted.{entry_label, labelled, call_code, adds_code, block_code, others_below, laid_order, kept_order, Laying, leads_of, next_label, found_code, laid_block, laid_code, blocks_code, enter_code, prologue_code}
+use Rattle.im_select.proofs.Following.{LeadsOn, lead_path, lead_below, lead_entry, kept_first}
 use Rattle.im_saved_lines.specs.Scan.{is_base, After, scan, AreSound}
 use Rattle.im_saved_lines.specs.Laws.{lives_inside, IsLow, HasEntries, HasBlocks, HoldsCalls, SavesFrom, laid, FunctionLinesLaw}
 use Rattle.im_saved_lines.proofs.Scanning.{either, IsUnsaved, unsaved_not, unsaved_true, or_unsaved, scan_append, sound_append, scan_labelled, sound_labelled, Lives, First, Second, Later, line_lives, plain_sound, plain_wants}
 use Rattle.im_saved_lines.proofs.Plain.{adds_plain, adds_wants}
-use Rattle.im_saved_lines.proofs.Order.{some_there, AreBelow, order_below}
+use Rattle.im_saved_lines.proofs.Order.{some_there, AreBelow, order_below, kept_below}
 use Rattle.im_saved_lines.proofs.Selected.{Meets, jump_before, jump_sound, body, body_before, body_sound}
 
 -- ---- the prologue
@@ -105,11 +108,21 @@ module _ (functions : List Function) (statics : ℕ) (f : Function) (laying : La
   abbrev Facts : ℕ → Block → Type 0
   Facts b block = BlockFacts functions statics (length laying.blocks) f laying.cut live b block
 
+  inside : (b : ℕ) → b < length laying.blocks → leads_of laying b < length laying.blocks
+  inside b h = lead_below laying.blocks laying.entry b (length laying.blocks) h
+
+  -- what lives where a block leads lives at the block
+  lives_onward : (b c r : ℕ) → LeadsOn laying.blocks laying.entry b c → live c r ≡ true → live b r ≡ true
+  lives_onward b c r on h = (facts b on.block on.there).closed r (subst (λ (z : List Line). lives_before live z on.block.exit r ≡ true) (sym on.lines) (subst (λ (z : Exit). lives_before live [] z r ≡ true) (sym on.exit) h))
+
+  further : (b r : ℕ) → live (leads_of laying b) r ≡ true → live b r ≡ true
+  further b r = lead_path laying.blocks laying.entry (λ x d. live d r ≡ true → live x r ≡ true) (λ x h. h) (λ x c d on k h. lives_onward x c r on (k h)) b
+
   abbrev code_of : Option ℕ → ℕ → Block → List CodeLine
-  code_of next b block = block_code laying.at (laying.cut b) laying.live laying.distance next laying.first laying.frame b block
+  code_of next b block = block_code laying.at (laying.cut b) laying.live (leads_of laying) laying.distance next laying.first laying.frame b block
 
   abbrev lines_of : Option ℕ → ℕ → Block → List CodeLine
-  lines_of next b block = body functions statics laying.first (length laying.blocks) laying.frame f laying.at (laying.cut b) laying.live laying.distance live at above kept low entries blocks homes next block.lines.items block.exit
+  lines_of next b block = body functions statics laying.first (length laying.blocks) laying.frame f laying.at (laying.cut b) laying.live laying.distance live at above kept low entries blocks homes (leads_of laying) inside further next block.lines.items block.exit
 
   -- what lives before a block lives at its label
   lines_before : (next : Option ℕ) (b : ℕ) (block : Block) (behind : After) (r : ℕ) → Facts b block → Meets at next behind → (scan at (lines_of next b block) behind).next r ≡ true → at (laying.first + b) r ≡ true
@@ -122,7 +135,7 @@ module _ (functions : List Function) (statics : ℕ) (f : Function) (laying : La
       unsaved u =
           blocks.all b r k.inside
           (k.closed r
-          (body_before functions statics laying.first (length laying.blocks) laying.frame f laying.at (laying.cut b) laying.live laying.distance live at above kept low entries blocks homes next block.lines.items block.exit behind r meets k.placed.lines k.placed.exit k.there k.exits u w))
+          (body_before functions statics laying.first (length laying.blocks) laying.frame f laying.at (laying.cut b) laying.live laying.distance live at above kept low entries blocks homes (leads_of laying) inside further next block.lines.items block.exit behind r meets k.placed.lines k.placed.exit k.there k.exits u w))
 
   block_before : (next : Option ℕ) (b : ℕ) (block : Block) (behind : After) (r : ℕ) → Facts b block → Meets at next behind → (scan at (code_of next b block) behind).next r ≡ true → at (laying.first + b) r ≡ true
   block_before next b block behind r k meets w =
@@ -131,7 +144,7 @@ module _ (functions : List Function) (statics : ℕ) (f : Function) (laying : La
   block_sound : (next : Option ℕ) (b : ℕ) (block : Block) (behind : After) → Facts b block → Meets at next behind → AreSound at (code_of next b block) behind
   block_sound next b block behind k meets =
       sound_labelled at (laying.first + b) (lines_of next b block) behind (λ r w. lines_before next b block behind r k meets w)
-      (body_sound functions statics laying.first (length laying.blocks) laying.frame f laying.at (laying.cut b) laying.live laying.distance live at above kept low entries blocks homes next block.lines.items block.exit behind meets k.placed.lines k.placed.exit k.there k.exits k.calls k.saves)
+      (body_sound functions statics laying.first (length laying.blocks) laying.frame f laying.at (laying.cut b) laying.live laying.distance live at above kept low entries blocks homes (leads_of laying) inside further next block.lines.items block.exit behind meets k.placed.lines k.placed.exit k.there k.exits k.calls k.saves)
 
   -- ---- as they are laid
 
@@ -168,11 +181,16 @@ module _ (functions : List Function) (statics : ℕ) (f : Function) (laying : La
   code_sound (b ∷ order) behind h =
       sound_append at (laid_block laying b order) (laid_code laying order) behind (laid_sound b order (scan at (laid_code laying order) behind) (code_meets order behind h.1)) (code_sound order behind h.1)
 
+  all_below : laying.entry < length laying.blocks → AreBelow (length laying.blocks) (kept_order laying)
+  all_below there = kept_below (leads_of laying) (length laying.blocks) (laid_order laying.entry (length laying.blocks)) (order_below laying.entry (length laying.blocks) there)
+
   blocks_meet : (behind : After) → laying.entry < length laying.blocks → Meets at (Some (laying.first + laying.entry)) (scan at (blocks_code laying) behind)
-  blocks_meet behind there = code_meets (laid_order laying.entry (length laying.blocks)) behind (order_below laying.entry (length laying.blocks) there)
+  blocks_meet behind there =
+      let first = kept_first (leads_of laying) laying.entry (others_below laying.entry (length laying.blocks)) (lead_entry laying.blocks laying.entry) in
+      subst (λ (z : List ℕ). Meets at (next_label laying.first z) (scan at (blocks_code laying) behind)) first (code_meets (kept_order laying) behind (all_below there))
 
   blocks_sound : (behind : After) → laying.entry < length laying.blocks → AreSound at (blocks_code laying) behind
-  blocks_sound behind there = code_sound (laid_order laying.entry (length laying.blocks)) behind (order_below laying.entry (length laying.blocks) there)
+  blocks_sound behind there = code_sound (kept_order laying) behind (all_below there)
 
 all_at : {X : Type 0} (P : X → Type 0) (xs : List X) (i : ℕ) (x : X) → All P xs → slice_get xs i ≡ Some x → P x
 all_at P xs i x a e = subst P (get_or_from_slice_get xs i x x e) (a i x (slice_get_within xs i x e))

@@ -2,6 +2,7 @@
 use Rattle.std.proofs.Common.{◌≡◌, ℕ, zero, suc, ◌<◌, ◌≤◌, inl, inr, Bool, true, false, List, [], ◌∷◌, None, length, arith}
 use Rattle.std.specs.Prelude.{◌==◌, if◌then◌else◌, slice_get}
 use Rattle.std.proofs.lemmas.Option.{slice_get_cases}
+use Rattle.im_select.specs.Leads.{kept}
 use Rattle.im_select.specs.Emitted.{others_below, laid_order}
 
 pub some_there : {X : Type 0} (xs : List X) (i : ℕ) → i < length xs → slice_get xs i ≡ None → ⊥
@@ -22,3 +23,12 @@ others_are_below count entry (suc n) h = by (n == entry) (others_are_below count
 
 pub order_below : (entry count : ℕ) → entry < count → AreBelow count (laid_order entry count)
 order_below entry count there = (there, others_are_below count entry count (omega arith))
+
+-- so are those that are kept
+pub kept_below : (leads : ℕ → ℕ) (count : ℕ) (order : List ℕ) → AreBelow count order → AreBelow count (kept leads order)
+kept_below leads count [] h = tt
+kept_below leads count (b ∷ order) h = by (leads b == b) (kept_below leads count order h.1)
+  where
+    by : (t : Bool) → AreBelow count (kept leads order) → AreBelow count (if t then b ∷ kept leads order else kept leads order)
+    by true rest = (h.0, rest)
+    by false rest = rest

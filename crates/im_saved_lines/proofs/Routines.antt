@@ -9,9 +9,12 @@ use Rattle.im_rv.specs.Lines.{CodeLine}
 use Rattle.im_gap.specs.declared.flow.Turn.{Turn}
 use Rattle.im_gap.specs.declared.flow.Turn.TheVariants.{Passes, Jumps, Branches, Returns, Stops}
 use Rattle.im_rtlib.specs.Laws.{is_saved}
-use Rattle.im_rtlib.specs.Routines.{getchar, putchar, exit, stack}
+use Rattle.im_serve.specs.declared.service.Service.{Service}
+use Rattle.im_serve.specs.Services.{services}
+use Rattle.im_rtlib.specs.Routines.{routine, exit, stack}
 use Rattle.im_saved_lines.specs.Scan.{is_base, is_returned, way, After, at_target, onward, lives_at, scan, Goes, GoesTo, IsSoundLine, AreSound}
-use Rattle.im_saved_lines.specs.Laws.{lives_inside, IsLow, AreLeast, RoutineLinesLaw}
+use Rattle.im_select.proofs.Services.{each_service}
+use Rattle.im_saved_lines.specs.Laws.{takes_argument, lives_inside, IsLow, AreLeast, RoutineLinesLaw}
 use Rattle.im_saved_lines.proofs.Scanning.{both, either, not_true, same_of, same_is, other_is}
 
 -- a label of the runtime, which the checkpoint has not
@@ -106,8 +109,8 @@ is_saved_at : (r s : ℕ) → is_saved s ≡ true → (r == s) ≡ true → is_s
 is_saved_at r s k e = ap is_saved (same_of r s e) ∙ k
 
 inside_saved : (l r : ℕ) → lives_inside l r ≡ true → is_saved r ≡ true
-inside_saved l r e = elim (either ((l == 33 || l == 34) && r == 10) ((((nat_le 41 l && nat_le l 45) && not (l == 43)) && (r == 5 || r == 10)) || ((l == 42 || l == 44) && r == 6)) e) [
-  | inl a ↦ is_saved_at r 10 refl (both (l == 33 || l == 34) (r == 10) a).1
+inside_saved l r e = elim (either ((takes_argument services l || l == 34) && r == 10) ((((nat_le 41 l && nat_le l 45) && not (l == 43)) && (r == 5 || r == 10)) || ((l == 42 || l == 44) && r == 6)) e) [
+  | inl a ↦ is_saved_at r 10 refl (both (takes_argument services l || l == 34) (r == 10) a).1
   | inr b ↦ elim (either (((nat_le 41 l && nat_le l 45) && not (l == 43)) && (r == 5 || r == 10)) ((l == 42 || l == 44) && r == 6) b) [
     | inl c ↦ elim (either (r == 5) (r == 10) (both ((nat_le 41 l && nat_le l 45) && not (l == 43)) (r == 5 || r == 10) c).1) [ inl d ↦ is_saved_at r 5 refl d | inr d ↦ is_saved_at r 10 refl d ]
     | inr c ↦ is_saved_at r 6 refl (both (l == 42 || l == 44) (r == 6) c).1
@@ -321,12 +324,18 @@ module _ (at : ℕ → ℕ → Bool) (low : IsLow at) where
         ]
       ]
 
+service_sound : (service : Service) (at : ℕ → ℕ → Bool) → IsLow at → (behind : After) → AreSound at (routine service) behind
+service_sound service at low behind =
+    lines_sound at low (routine service) behind (each_service (λ s. lines_test (routine s)) refl service)
+    (λ r lt. below_is (labels_hold (routine service) behind) 11 r (each_service (λ s. all_below (labels_hold (routine s) behind) 11) refl service) lt)
+
+service_least : (service : Service) (at : ℕ → ℕ → Bool) → IsLow at → (behind : After) → AreLeast at (routine service) behind
+service_least service at low behind = lines_least at low (routine service) behind (each_service (λ s. lines_test (routine s)) refl service) (each_service (λ s. least_test (routine s) behind) refl service)
+
 pub routine_lines : RoutineLinesLaw
 routine_lines = record {
-  getchar_sound = λ at low behind. lines_sound at low getchar behind refl (λ r lt. below_is (labels_hold getchar behind) 11 r refl lt);
-  putchar_sound = λ at low behind. lines_sound at low putchar behind refl (λ r lt. below_is (labels_hold putchar behind) 11 r refl lt);
-  getchar_least = λ at low behind. lines_least at low getchar behind refl refl;
-  putchar_least = λ at low behind. lines_least at low putchar behind refl refl;
+  service_sound = service_sound;
+  service_least = service_least;
   stack_sound = λ at low behind. lines_sound at low stack behind refl (λ r lt. below_is (labels_hold stack behind) 11 r refl lt);
   exit_sound = λ at low behind. lines_sound at low exit behind refl (λ r lt. below_is (labels_hold exit behind) 11 r refl lt);
   exit_lives = λ at low behind r w. exit_ends at low behind r w;

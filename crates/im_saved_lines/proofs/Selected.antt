@@ -14,12 +14,14 @@ use Rattle.im_rv.specs.Decode.{Line as Instruction}
 use Rattle.im_rv.specs.Lines.{CodeLine, plain_line}
 use Rattle.im_rv_reach.specs.Instructions.{with_immediate, branching, jumping}
 use Rattle.im_gap.specs.declared.flow.Turn.TheVariants.{Branches}
-use Rattle.im_rtlib.specs.Routines.{aimed}
+use Rattle.im_rtlib.specs.Routines.{service_label, aimed}
 use Rattle.im_store.specs.declared.operators.BinaryOp.{BinaryOp}
 use Rattle.im_store.specs.declared.operators.Comparison.{Comparison}
 use Rattle.im_store.specs.declared.operators.Comparison.TheVariants.{Less, Greater, LessOrEqual, GreaterOrEqual, Equal, NotEqual}
 use Rattle.im_store.specs.Objects.{Name}
+use Rattle.im_serve.specs.declared.service.Service.{Service}
 use Rattle.im_serve.specs.declared.service.Service.TheVariants.{Getchar, Putchar}
+use Rattle.im_serve.specs.Services.{row, IsNullary, IsUnary}
 use Rattle.im_block.specs.declared.code.Place.{Place}
 use Rattle.im_block.specs.declared.code.Place.TheVariants.{Static, Local, Through}
 use Rattle.im_block.specs.declared.code.Line.{Line}
@@ -33,12 +35,14 @@ use Rattle.im_alloc_placed.specs.Placed.{IsPlacedLine, IsPlacedExit}
 use Rattle.im_alloc_relation.specs.Live.{place_uses, uses, sets}
 use Rattle.im_live.specs.Reads.{reads, reads_stack, writes, exit_live, lives_before}
 use Rattle.im_live.proofs.Paths.{lives_more}
+use Rattle.im_select.specs.Leads.{led}
 use Rattle.im_select.specs.declared.branching.Test.{Test}
 use Rattle.im_select.specs.declared.branching.Test.TheVariants.{Nonzero, Compares}
 use Rattle.im_select.specs.declared.distance.Distance.{Distance as Reach}
 use Rattle.im_select.specs.declared.distance.Distance.TheVariants.{Near, Far}
 use Rattle.im_select.specs.Emitted.{entry_label, cut_code, result_code, call_code, word_taken, passed_by, line_code, lines_code, behind_each, adds_code, leave_code, onward_code, both_ways, test_op, test_code, test_or, taken_test, own_lines, is_next, branch_code, exit_code, is_empty, taking_code}
 use Rattle.im_select.proofs.Pairing.{lines_alone, lines_paired, Folds, folds, IsImmediate, immediate_of}
+use Rattle.im_select.proofs.Services.{service_low, service_high}
 use Rattle.im_select.proofs.Parts.{IsBehind, behind_tail, word_cases}
 use Rattle.im_select.proofs.Taking.{IsTaken, Nothing, Comparing, takes as parted, test_branches}
 use Rattle.im_saved_lines.specs.Scan.{Goes, IsSoundLine, way, is_base, is_returned, After, onward, scan, AreSound}
@@ -46,6 +50,17 @@ use Rattle.im_saved_lines.specs.Laws.{lives_inside, IsLow, HasEntries, HasBlocks
 use Rattle.im_saved_lines.proofs.Scanning.{both, both_are, either, or_left, or_right, same_of, same_is, other_is, IsUnsaved, unsaved_not, unsaved_true, or_unsaved, scan_append, sound_append, Lives, First, Second, Later, line_lives, plain_sound, Wants, plain_wants}
 use Rattle.im_saved_lines.proofs.Plain.{adds_plain, adds_wants}
 use Rattle.im_saved_lines.proofs.Working.{immediate_way, work_plain, work_wants}
+
+-- ---- the label of a service
+
+-- at most the argument lives there
+service_lives : (service : Service) (r : ℕ) → lives_inside (service_label service) r ≡ true → IsUnary (row service).parameter × (r ≡ 10)
+service_lives Getchar r e = absurd cc
+service_lives Putchar r e = elim (either (r == 10) false e) [ inl a ↦ (tt, same_of r 10 a) | inr b ↦ absurd cc ]
+
+not_both : (parameter : Option Kind) → IsNullary parameter → IsUnary parameter → ⊥
+not_both None nullary unary = unary
+not_both (Some kind) nullary unary = nullary
 
 -- ---- registers that lines of placed code use are homes
 
@@ -328,21 +343,21 @@ module _ (at : ℕ → ℕ → Bool) where
       by true = test_sound distance false t other behind b
       by false = sound_append at (test_code distance true t there) rest behind (test_sound distance true t there (scan at rest behind) a) (onward_sound (is_next next other) other behind b)
 
-module _ (functions : List Function) (statics first count frame : ℕ) (f : Function) (places : Name → ℕ) (m : ℕ → ℕ) (by : ℕ → ℕ → Bool) (distance : Reach) (live at : ℕ → ℕ → Bool) (above : 64 ≤ first) (kept : (b r : ℕ) → live b r ≡ true → by b r ≡ true) (low : IsLow at) (entries : HasEntries functions at) (blocks : HasBlocks live first count at) (homes : (b r : ℕ) → live b r ≡ true → (is_base r ≡ true) ⊎ IsHome r) where
-  block_live : (b r : ℕ) → b < count → IsUnsaved r → at (first + b) r ≡ true → live b r ≡ true
-  block_live b r there u e = elim (blocks.only b r there e) [ inl s ↦ absurd (unsaved_true r u s) | inr w ↦ w ]
+module _ (functions : List Function) (statics first count frame : ℕ) (f : Function) (places : Name → ℕ) (m : ℕ → ℕ) (by : ℕ → ℕ → Bool) (distance : Reach) (live at : ℕ → ℕ → Bool) (above : 64 ≤ first) (kept : (b r : ℕ) → live b r ≡ true → by b r ≡ true) (low : IsLow at) (entries : HasEntries functions at) (blocks : HasBlocks live first count at) (homes : (b r : ℕ) → live b r ≡ true → (is_base r ≡ true) ⊎ IsHome r) (leads : ℕ → ℕ) (inside : (b : ℕ) → b < count → leads b < count) (further : (b r : ℕ) → live (leads b) r ≡ true → live b r ≡ true) where
+  block_live : (b r : ℕ) → b < count → IsUnsaved r → at (first + leads b) r ≡ true → live b r ≡ true
+  block_live b r there u e = further b r (elim (blocks.only (leads b) r (inside b there) e) [ inl s ↦ absurd (unsaved_true r u s) | inr w ↦ w ])
 
   -- by the register of a branch, or by the test that it takes
-  led_to : (x y r : ℕ) → x < count → y < count → IsUnsaved r → (at (first + x) r ≡ true) ⊎ (at (first + y) r ≡ true) → (live x r || live y r) ≡ true
+  led_to : (x y r : ℕ) → x < count → y < count → IsUnsaved r → (at (first + leads x) r ≡ true) ⊎ (at (first + leads y) r ≡ true) → (live x r || live y r) ≡ true
   led_to x y r a b u (inl e) = or_left (live x r) (live y r) (block_live x r a u e)
   led_to x y r a b u (inr e) = or_right (live x r) (live y r) (block_live y r b u e)
 
-  exit_before : (next : Option ℕ) (bare : Bool) (exit : Exit) (behind : After) (r : ℕ) → Meets at next behind → IsPlacedExit exit → ExitThere count exit → IsUnsaved r → (scan at (exit_code distance next bare first frame None exit) behind).next r ≡ true → exit_live live exit r ≡ true
-  exit_before next bare (Jump b) behind r meets h there u w = block_live b r there u (onward_before at next (first + b) (not bare && is_next next (first + b)) behind r (λ e. (both (not bare) (is_next next (first + b)) e).1) meets u w)
-  exit_before next bare (Turn b) behind r meets h there u w = block_live b r there u (jump_before at 0 (first + b) behind r refl u w)
-  exit_before next bare (Branch on x y) behind r meets h there u w = cases (branch_before at distance next (Nonzero on) (first + x) (first + y) behind r meets u w)
+  exit_before : (next : Option ℕ) (bare : Bool) (exit : Exit) (behind : After) (r : ℕ) → Meets at next behind → IsPlacedExit exit → ExitThere count exit → IsUnsaved r → (scan at (exit_code distance next bare first frame None (led leads exit)) behind).next r ≡ true → exit_live live exit r ≡ true
+  exit_before next bare (Jump b) behind r meets h there u w = block_live b r there u (onward_before at next (first + leads b) (not bare && is_next next (first + leads b)) behind r (λ e. (both (not bare) (is_next next (first + leads b)) e).1) meets u w)
+  exit_before next bare (Turn b) behind r meets h there u w = block_live b r there u (jump_before at 0 (first + leads b) behind r refl u w)
+  exit_before next bare (Branch on x y) behind r meets h there u w = cases (branch_before at distance next (Nonzero on) (first + leads x) (first + leads y) behind r meets u w)
     where
-      cases : ((r ≡ on) ⊎ (r ≡ 0)) ⊎ (at (first + x) r ≡ true) ⊎ (at (first + y) r ≡ true) → exit_live live (Branch on x y) r ≡ true
+      cases : ((r ≡ on) ⊎ (r ≡ 0)) ⊎ (at (first + leads x) r ≡ true) ⊎ (at (first + leads y) r ≡ true) → exit_live live (Branch on x y) r ≡ true
       cases (inl (inl e)) = or_left (r == on) (live x r || live y r) (same_is r on e)
       cases (inl (inr e)) = absurd (unsaved_not r 0 u refl e)
       cases (inr e) = or_right (r == on) (live x r || live y r) (led_to x y r there.0 there.1 u e)
@@ -371,14 +386,14 @@ module _ (functions : List Function) (statics first count frame : ℕ) (f : Func
       cases false q = refl
 
   -- with the comparison that the exit takes
-  tail_before : (next : Option ℕ) (bare : Bool) (tail : List Line) (exit : Exit) (taken : Option Test) (behind : After) (r : ℕ) → IsTaken by tail exit taken → Meets at next behind → IsPlacedExit exit → ExitThere count exit → IsUnsaved r → (scan at (exit_code distance next bare first frame taken exit) behind).next r ≡ true → lives_before live tail exit r ≡ true
+  tail_before : (next : Option ℕ) (bare : Bool) (tail : List Line) (exit : Exit) (taken : Option Test) (behind : After) (r : ℕ) → IsTaken by tail exit taken → Meets at next behind → IsPlacedExit exit → ExitThere count exit → IsUnsaved r → (scan at (exit_code distance next bare first frame taken (led leads exit)) behind).next r ≡ true → lives_before live tail exit r ≡ true
   tail_before next bare tail exit taken behind r (Nothing exit') meets h there u w = exit_before next bare exit behind r meets h there u w
-  tail_before next bare tail exit taken behind r (Comparing to op kind left right x y a b) meets h there u w = cases (branch_before at distance next (Compares op kind left right) (first + x) (first + y) behind r meets u w)
+  tail_before next bare tail exit taken behind r (Comparing to op kind left right x y a b) meets h there u w = cases (branch_before at distance next (Compares op kind left right) (first + leads x) (first + leads y) behind r meets u w)
     where
       line : Line
       line = Compare to op kind left right
 
-      cases : ((r ≡ (both_ways (Compares op kind left right)).left) ⊎ (r ≡ (both_ways (Compares op kind left right)).right)) ⊎ (at (first + x) r ≡ true) ⊎ (at (first + y) r ≡ true) → lives_before live (line ∷ []) (Branch to x y) r ≡ true
+      cases : ((r ≡ (both_ways (Compares op kind left right)).left) ⊎ (r ≡ (both_ways (Compares op kind left right)).right)) ⊎ (at (first + leads x) r ≡ true) ⊎ (at (first + leads y) r ≡ true) → lives_before live (line ∷ []) (Branch to x y) r ≡ true
       cases (inl e) = or_left (reads line r) (not (r == to) && exit_live live (Branch to x y) r) (or_left (r == left || r == right) false (operand_is op kind left right r e))
       cases (inr e) =
           let lives = led_to x y r there.0 there.1 u e in
@@ -416,15 +431,11 @@ module _ (functions : List Function) (statics first count frame : ℕ) (f : Func
   line_before : (k : ℕ) (line : Line) (behind : After) (r : ℕ) → IsPlacedLine statics f line → LineThere functions line → IsUnsaved r → (scan at (line_code places k line) behind).next r ≡ true → Before line behind r
   line_before k (Cut cause) behind r h t u w = inr (refl, cut_before at k cause behind r u w)
   line_before k (Call to i start given) behind r h t u w = inl (or_left (uses (Call to i start given) r) (true && r == 2) (called i start given r h.1 (takes (slice_get functions i) i given r refl t u (jump_before at 1 (entry_label i) behind r refl u w))))
-  line_before k (Serve to Putchar None) behind r h t u w = absurd h.1
-  line_before k (Serve to Getchar (Some from)) behind r h t u w = absurd h.2
-  line_before k (Serve to Getchar None) behind r h t u w = let away = label_only 32 r (omega arith) u (jump_before at 1 32 behind r refl u w) in absurd cc
-  line_before k (Serve to Putchar (Some from)) behind r h t u w =
-      let is : r ≡ 10 = ten (label_only 33 r (omega arith) u (jump_before at 1 33 behind r refl u w)) in
+  line_before k (Serve to service None) behind r h t u w =
+      absurd (not_both (row service).parameter h.1 (service_lives service r (label_only (service_label service) r (service_low service) u (jump_before at 1 (service_label service) behind r refl u w))).0)
+  line_before k (Serve to service (Some from)) behind r h t u w =
+      let is : r ≡ 10 = (service_lives service r (label_only (service_label service) r (service_low service) u (jump_before at 1 (service_label service) behind r refl u w))).1 in
       inl (or_left (r == from) (true && r == 2) (same_is r from (is ∙ sym h.1)))
-    where
-      ten : lives_inside 33 r ≡ true → r ≡ 10
-      ten e = elim (either (r == 10) false e) [ inl a ↦ same_of r 10 a | inr b ↦ absurd cc ]
   line_before k line behind r h t u w = work_before line behind r (λ q. refl) (work_wants places k line tt (behind.next r ≡ true) r u (plain_wants at (line_code places k line) behind r (work_plain places k line tt) u w))
 
   -- a line that takes nothing and passes nothing on
@@ -526,17 +537,11 @@ module _ (functions : List Function) (statics first count frame : ℕ) (f : Func
   line_sound n (Call to i start given) rest exit behind k home s v =
       jump_sound at 1 (entry_label i) behind (λ e. absurd (omega arith)) (omega arith)
       (λ e r w. returned_of r (elim (or_unsaved ((is_base r ≡ true) ⊎ (r ≡ 10)) r (λ u. s.0 tt r (k r u w))) [ inl a ↦ inl a | inr b ↦ b ]))
-  line_sound n (Serve to Getchar None) rest exit behind k home s v =
-      jump_sound at 1 32 behind (λ e. absurd (omega arith)) (omega arith)
+  line_sound n (Serve to service None) rest exit behind k home s v =
+      jump_sound at 1 (service_label service) behind (λ e. absurd (omega arith)) (service_high service)
       (λ e r w. returned_of r (elim (or_unsaved ((is_base r ≡ true) ⊎ (r ≡ 10)) r (λ u. s.0 tt r (k r u w))) [ inl a ↦ inl a | inr b ↦ b ]))
-  line_sound n (Serve to Getchar (Some from)) rest exit behind k home s v =
-      jump_sound at 1 32 behind (λ e. absurd (omega arith)) (omega arith)
-      (λ e r w. returned_of r (elim (or_unsaved ((is_base r ≡ true) ⊎ (r ≡ 10)) r (λ u. s.0 tt r (k r u w))) [ inl a ↦ inl a | inr b ↦ b ]))
-  line_sound n (Serve to Putchar None) rest exit behind k home s v =
-      jump_sound at 1 33 behind (λ e. absurd (omega arith)) (omega arith)
-      (λ e r w. returned_of r (elim (or_unsaved ((is_base r ≡ true) ⊎ (r ≡ 10)) r (λ u. s.0 tt r (k r u w))) [ inl a ↦ inl a | inr b ↦ b ]))
-  line_sound n (Serve to Putchar (Some from)) rest exit behind k home s v =
-      jump_sound at 1 33 behind (λ e. absurd (omega arith)) (omega arith)
+  line_sound n (Serve to service (Some from)) rest exit behind k home s v =
+      jump_sound at 1 (service_label service) behind (λ e. absurd (omega arith)) (service_high service)
       (λ e r w. returned_of r (elim (or_unsaved ((is_base r ≡ true) ⊎ (r ≡ 10)) r (λ u. s.0 tt r (k r u w))) [ inl a ↦ inl a | inr b ↦ b ]))
   line_sound n line rest exit behind k home s v = plain_sound at (line_code places n line) behind (work_plain places n line tt)
 
@@ -574,13 +579,13 @@ module _ (functions : List Function) (statics first count frame : ℕ) (f : Func
 
   -- a block
   abbrev pub body : Option ℕ → List Line → Exit → List CodeLine
-  body next lines exit = taking_code places m (behind_each by lines exit) distance next first frame (taken_test by lines exit) lines exit
+  body next lines exit = taking_code places m (behind_each by lines exit) distance next first frame (taken_test by lines exit) lines (led leads exit)
 
   abbrev own_code : List Line → Exit → List CodeLine
   own_code lines exit = lines_code places m (behind_each by lines exit) None 0 (own_lines (taken_test by lines exit) lines)
 
   abbrev ends : Option ℕ → List Line → Exit → List CodeLine
-  ends next lines exit = exit_code distance next (is_empty (own_code lines exit)) first frame (taken_test by lines exit) exit
+  ends next lines exit = exit_code distance next (is_empty (own_code lines exit)) first frame (taken_test by lines exit) (led leads exit)
 
   exit_meets : (next : Option ℕ) (lines : List Line) (exit : Exit) (behind : After) → Meets at next behind → IsPlacedExit exit → ExitThere count exit → (r : ℕ) → IsUnsaved r → (scan at (ends next lines exit) behind).next r ≡ true → lives_before live (parted by lines exit).tail exit r ≡ true
   exit_meets next lines exit behind meets e there r u w = tail_before next (is_empty (own_code lines exit)) (parted by lines exit).tail exit (taken_test by lines exit) behind r (parted by lines exit).is meets e there u w
@@ -602,4 +607,4 @@ module _ (functions : List Function) (statics first count frame : ℕ) (f : Func
       (lines_sound (behind_each by lines exit) 0 (own_lines (taken_test by lines exit) lines) k.tail exit (scan at (ends next lines exit) behind) (own_behind lines exit) (exit_meets next lines exit behind meets e there)
       (subst (All (IsPlacedLine statics f)) (sym k.whole) h) e (subst (All (LineThere functions)) (sym k.whole) t)
       (subst (λ (z : List Line). HoldsCalls live z exit) (sym k.whole) s) (subst (λ (z : List Line). SavesFrom live m 0 z exit) (sym k.whole) saves))
-      (exit_sound next (is_empty (own_code lines exit)) (taken_test by lines exit) exit behind)
+      (exit_sound next (is_empty (own_code lines exit)) (taken_test by lines exit) (led leads exit) behind)

@@ -1,6 +1,9 @@
 -- That lines are sound: those of a function whose cuts save what lives behind them, and the runtime's routines.
-use Rattle.std.specs.Prelude.{◌≡◌, ◌<◌, ◌≤◌, ◌⊎◌, ℕ, suc, ◌+◌, ◌==◌, ◌&&◌, ◌||◌, nat_le, not, Bool, true, List, [], ◌∷◌, Some, length, slice_get}
-use Rattle.im_rtlib.specs.Routines.{getchar, putchar, exit, stack}
+use Rattle.std.specs.Prelude.{◌≡◌, ◌<◌, ◌≤◌, ◌⊎◌, ℕ, suc, ◌+◌, ◌==◌, ◌&&◌, ◌||◌, nat_le, not, Bool, true, false, List, [], ◌∷◌, Some, length, slice_get}
+use Rattle.std.specs.Option.{is_some}
+use Rattle.im_serve.specs.declared.service.Service.{Service}
+use Rattle.im_serve.specs.Services.{row, services}
+use Rattle.im_rtlib.specs.Routines.{service_label, routine, exit, stack}
 use Rattle.im_store.specs.Objects.{Name}
 use Rattle.im_block.specs.declared.code.Line.{Line}
 use Rattle.im_block.specs.declared.code.Exit.{Exit}
@@ -16,11 +19,16 @@ use Rattle.im_select.specs.Emitted.{entry_label, Laying, function_code}
 use Rattle.im_rv.specs.Lines.{CodeLine}
 use Rattle.im_saved_lines.specs.Scan.{is_base, After, scan, AreSound}
 
--- what lives at the runtime's labels beside x0, x1 and x2: x10 at putchar and at the end of a run; x5 and x10 inside putchar,
--- and x6 where the length is read
+-- whether a label is that of one of the services, with a parameter
+abbrev pub takes_argument : List Service → ℕ → Bool
+takes_argument [] l = false
+takes_argument (service ∷ more) l = (l == service_label service && is_some (row service).parameter) || takes_argument more l
+
+-- what lives at the runtime's labels beside x0, x1 and x2: x10 at a service with a parameter and at the end of a run; x5 and x10
+-- inside putchar, and x6 where the length is read
 abbrev pub lives_inside : ℕ → ℕ → Bool
 lives_inside l r =
-    ((l == 33 || l == 34) && r == 10)
+    ((takes_argument services l || l == 34) && r == 10)
     || ((((nat_le 41 l && nat_le l 45) && not (l == 43)) && (r == 5 || r == 10)) || ((l == 42 || l == 44) && r == 6))
 
 pub record IsLow (at : ℕ → ℕ → Bool) : Type 0 where
@@ -71,10 +79,8 @@ AreLeast at [] behind = Unit {0}
 AreLeast at (x ∷ xs) behind = (x.line.rd ≡ 3 → (m : ℕ) × (x.target ≡ Some m) × ((scan at xs behind).next m ≡ true)) × AreLeast at xs behind
 
 pub record RoutineLinesLaw : Type 0 where
-  pub getchar_sound : (at : ℕ → ℕ → Bool) → IsLow at → (behind : After) → AreSound at getchar behind
-  pub putchar_sound : (at : ℕ → ℕ → Bool) → IsLow at → (behind : After) → AreSound at putchar behind
-  pub getchar_least : (at : ℕ → ℕ → Bool) → IsLow at → (behind : After) → AreLeast at getchar behind
-  pub putchar_least : (at : ℕ → ℕ → Bool) → IsLow at → (behind : After) → AreLeast at putchar behind
+  pub service_sound : (service : Service) (at : ℕ → ℕ → Bool) → IsLow at → (behind : After) → AreSound at (routine service) behind
+  pub service_least : (service : Service) (at : ℕ → ℕ → Bool) → IsLow at → (behind : After) → AreLeast at (routine service) behind
   pub stack_sound : (at : ℕ → ℕ → Bool) → IsLow at → (behind : After) → AreSound at stack behind
   pub exit_sound : (at : ℕ → ℕ → Bool) → IsLow at → (behind : After) → AreSound at exit behind
   -- what lives where a run ends

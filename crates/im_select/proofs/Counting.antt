@@ -23,11 +23,13 @@ use Rattle.im_block.specs.declared.unit.Function.{Function}
 use Rattle.im_block.specs.Forced.{StartsWithCut}
 use Rattle.im_block.specs.Shape.{sum_of, with_cut, exit_words, placed_block_cost, placed_cost}
 use Rattle.im_alloc_placed.specs.Apart.{CutsApart}
+use Rattle.im_select.specs.Leads.{led}
 use Rattle.im_select.specs.declared.branching.Test.{Test}
 use Rattle.im_select.specs.declared.distance.Distance.{Distance}
 use Rattle.im_select.specs.declared.distance.Distance.TheVariants.{Near, Far}
-use Rattle.im_select.specs.Emitted.{high_of, low_of, constant_by, constant_code, displaced_by, displaced_code, displaced_base, step_op, adds_by, adds_code, place_number, place_code, place_base, moved_code, copied_code, shift_of, shifts_code, scaled_code, scaled_register, based_code, address_code, computed_code, immediate_line, passed_by, by_or, way_code, line_code, lines_code, behind_each, onward_code, test_code, test_or, taken_test, own_lines, is_next, branch_code, exit_code, is_empty, ended_code, block_code, Laying, next_label, found_code, laid_block, laid_code, laid_order, blocks_code, enter_code, prologue_code, function_code, labelled, entry_label}
+use Rattle.im_select.specs.Emitted.{high_of, low_of, constant_by, constant_code, displaced_by, displaced_code, displaced_base, step_op, adds_by, adds_code, place_number, place_code, place_base, moved_code, copied_code, shift_of, shifts_code, scaled_code, scaled_register, based_code, address_code, computed_code, immediate_line, passed_by, by_or, way_code, line_code, lines_code, behind_each, onward_code, test_code, test_or, taken_test, own_lines, is_next, branch_code, exit_code, is_empty, ended_code, block_code, Laying, leads_of, next_label, found_code, laid_block, laid_code, laid_order, kept_order, blocks_code, enter_code, prologue_code, function_code, labelled, entry_label}
 use Rattle.im_select.proofs.Taking.{takes}
+use Rattle.im_select.proofs.Following.{led_words, kept_cost}
 use Rattle.im_select.proofs.Ordering.{cost_found, cost_in, order_cost}
 use Rattle.im_select.proofs.Plain.{length_labelled}
 
@@ -217,8 +219,8 @@ apart_left [] ys h = tt
 apart_left (Cut cause ∷ xs) ys h = ((λ s. h.0 (starts_left xs ys s)), apart_left xs ys h.1)
 apart_left (x ∷ xs) ys h = apart_left xs ys h
 
-block_few : (at : Name → ℕ) (m : ℕ → ℕ) (live : ℕ → ℕ → Bool) (distance : Distance) (next : Option ℕ) (first frame b : ℕ) (block : Block) → CutsApart block.lines.items → length (block_code at m live distance next first frame b block) ≤ placed_block_cost block
-block_few at m live distance next first frame b block h =
+block_few : (at : Name → ℕ) (m : ℕ → ℕ) (live : ℕ → ℕ → Bool) (leads : ℕ → ℕ) (distance : Distance) (next : Option ℕ) (first frame b : ℕ) (block : Block) → CutsApart block.lines.items → length (block_code at m live leads distance next first frame b block) ≤ placed_block_cost block
+block_few at m live leads distance next first frame b block h =
     let taken : Option Test = taken_test live block.lines.items block.exit in
     let own : List Line = own_lines taken block.lines.items in
     let t = takes live block.lines.items block.exit in
@@ -228,8 +230,9 @@ block_few at m live distance next first frame b block h =
     let s = sum_left with_cut own t.tail in
     let w = ap (sum_of with_cut) t.whole in
     let lines : List CodeLine = lines_code at m needed None 0 own in
-    let exit : List CodeLine = exit_code distance next (is_empty lines) first frame taken block.exit in
-    let q = exit_few distance next (is_empty lines) first frame taken block.exit in
+    let exit : List CodeLine = exit_code distance next (is_empty lines) first frame taken (led leads block.exit) in
+    let q = exit_few distance next (is_empty lines) first frame taken (led leads block.exit) in
+    let same = led_words leads block.exit in
     let e = length-append lines exit in
     let l = length_labelled (first + b) (lines ++ exit) in
     omega arith
@@ -240,7 +243,7 @@ Apart blocks = (b : ℕ) (block : Block) → slice_get blocks b ≡ Some block �
 
 found_few : (laying : Laying) (b : ℕ) (next : Option ℕ) (block : Option Block) → ((x : Block) → block ≡ Some x → CutsApart x.lines.items) → length (found_code laying b next block) ≤ cost_found block
 found_few laying b next None h = omega arith
-found_few laying b next (Some block) h = block_few laying.at (laying.cut b) laying.live laying.distance next laying.first laying.frame b block (h block refl)
+found_few laying b next (Some block) h = block_few laying.at (laying.cut b) laying.live (leads_of laying) laying.distance next laying.first laying.frame b block (h block refl)
 
 laid_few : (laying : Laying) (order : List ℕ) → Apart laying.blocks → length (laid_code laying order) ≤ cost_in laying.blocks order
 laid_few laying [] h = omega arith
@@ -259,7 +262,8 @@ function_few i laying f same within h =
     let rest : List CodeLine = blocks_code laying in
     let a = prologue_few laying.frame in
     let l = length_labelled (entry_label i) head in
-    let b = laid_few laying (laid_order laying.entry (length laying.blocks)) h in
+    let b = laid_few laying (kept_order laying) h in
+    let k = kept_cost laying.blocks (leads_of laying) (laid_order laying.entry (length laying.blocks)) in
     let c = order_cost laying.blocks laying.entry within in
     let s = ap (sum_of placed_block_cost) same in
     let e = length-append (labelled (entry_label i) head) rest in

@@ -11,7 +11,6 @@ use Rattle.im_rv.specs.Lines.{CodeLine, plain_line}
 use Rattle.im_store.specs.declared.operators.UnaryOp.TheVariants.{Negate, Complement}
 use Rattle.im_store.specs.declared.operators.Comparison.TheVariants.{Less, Greater, LessOrEqual, GreaterOrEqual, Equal, NotEqual}
 use Rattle.im_store.specs.Objects.{Name, Slot}
-use Rattle.im_serve.specs.declared.service.Service.TheVariants.{Getchar, Putchar}
 use Rattle.im_block.specs.declared.code.Line.{Line}
 use Rattle.im_block.specs.declared.code.Line.TheVariants.{Put, PutNull, Copy, Convert, Unary, Not, Compute, Compare, Move, Distance as Measure, Address, Read, Write, Reload, Spill, Cut, Call, Serve}
 use Rattle.im_block.specs.declared.code.Exit.{Exit}
@@ -22,11 +21,15 @@ use Rattle.im_select.specs.Given.{Given}
 use Rattle.im_select.specs.declared.branching.Test.{Test}
 use Rattle.im_select.specs.declared.distance.Distance.{Distance}
 use Rattle.im_select.specs.declared.distance.Distance.TheVariants.{Near, Far}
-use Rattle.im_select.specs.Emitted.{constant_code, displaced_code, adds_code, place_number, place_code, copied_code, scaled_code, address_code, call_code, computed_code, immediate_line, passed_by, by_or, way_code, line_code, lines_code, behind_each, leave_code, result_code, onward_code, test_op, test_code, test_or, taken_test, own_lines, taking_code, is_next, branch_code, exit_code, is_empty, Laying, next_label, found_code, laid_block, laid_code, laid_order, blocks_code, enter_code, prologue_code, function_code, labelled, entry_label}
+use Rattle.im_select.specs.Emitted.{constant_code, displaced_code, adds_code, place_number, place_code, copied_code, scaled_code, address_code, call_code, computed_code, immediate_line, passed_by, by_or, way_code, line_code, lines_code, behind_each, leave_code, result_code, onward_code, test_op, test_code, test_or, taken_test, own_lines, taking_code, is_next, branch_code, exit_code, is_empty, Laying, leads_of, next_label, found_code, laid_block, laid_code, laid_order, kept_order, blocks_code, enter_code, prologue_code, function_code, labelled, entry_label}
+use Rattle.im_select.specs.Leads.{led}
 use Rattle.im_select_relation.specs.Selected.{IsEntry}
 use Rattle.im_select.specs.Places.{CallsBelow}
-use Rattle.im_select.specs.Selects.{HasLabel, IsTarget, IsNear, LeadsTo, IsClosedBlock, laying_of}
+use Rattle.im_rtlib.specs.Routines.{service_label}
+use Rattle.im_select.specs.Selects.{block_label, HasLabel, IsTarget, IsNear, LeadsTo, IsClosedBlock, laying_of}
 use Rattle.im_select.proofs.Low.{there}
+use Rattle.im_select.proofs.Following.{lead_below, lead_lead, kept_are, kept_all, kept_distinct}
+use Rattle.im_select.proofs.Parts.{leads_in}
 use Rattle.im_select.proofs.Taking.{takes, all_left, test_branches}
 use Rattle.im_select.proofs.Ordering.{Among, Distinct, order_distinct, order_below, order_all}
 use Rattle.im_select.proofs.Standing.{after, after_length}
@@ -81,11 +84,8 @@ line_sound names whole at m (Write place kind from access) o h = both names whol
 line_sound names whole at m (Reload to slot access) o h = both names whole (displaced_code 2 (at (Slot slot))) _ (bare names whole (displaced_code 2 (at (Slot slot))) (displaced_bare 2 (at (Slot slot)))) (silent names whole _ refl refl)
 line_sound names whole at m (Spill slot from access) o h = both names whole (displaced_code 2 (at (Slot slot))) _ (bare names whole (displaced_code 2 (at (Slot slot))) (displaced_bare 2 (at (Slot slot)))) (silent names whole _ refl refl)
 line_sound names whole at m (Cut cause) o h = ((refl, tt), ((λ l e. leads names whole m _ refl (inl o) l e), tt))
-line_sound names whole at m (Call to i first count) o h = ((refl, tt), ((λ l e. leads names whole (entry_label i) _ refl (inr (inr (inr (inr (inl (i, h, refl)))))) l e), tt))
-line_sound names whole at m (Serve to Getchar None) o h = ((refl, tt), ((λ l e. leads names whole 32 _ refl (inr (inl refl)) l e), tt))
-line_sound names whole at m (Serve to Getchar (Some from)) o h = ((refl, tt), ((λ l e. leads names whole 32 _ refl (inr (inl refl)) l e), tt))
-line_sound names whole at m (Serve to Putchar None) o h = ((refl, tt), ((λ l e. leads names whole 33 _ refl (inr (inr (inl refl))) l e), tt))
-line_sound names whole at m (Serve to Putchar (Some from)) o h = ((refl, tt), ((λ l e. leads names whole 33 _ refl (inr (inr (inl refl))) l e), tt))
+line_sound names whole at m (Call to i first count) o h = ((refl, tt), ((λ l e. leads names whole (entry_label i) _ refl (inr (inr (inr (inl (i, h, refl))))) l e), tt))
+line_sound names whole at m (Serve to service from) o h = ((refl, tt), ((λ l e. leads names whole (service_label service) _ refl (inr (inl (service, refl))) l e), tt))
 
 way_sound : (names : Given) (whole : List CodeLine) (at : Name → ℕ) (m : ℕ) (passed before : Option ℕ) (line : Line) → IsEntry m → CallsBelow names.functions line → Sound names whole (way_code at m passed before line)
 way_sound names whole at m None before (Put to z) o h = line_sound names whole at m (Put to z) o h
@@ -104,13 +104,13 @@ lines_sound names whole at m needed before j (line ∷ lines) o h =
     let passed : Option ℕ = passed_by (needed (suc j)) line lines in
     both names whole (way_code at (m j) passed before line) (lines_code at m needed passed (suc j) lines) (way_sound names whole at (m j) passed before line (o j) (All-head (CallsBelow names.functions) line lines h)) (lines_sound names whole at m needed passed (suc j) lines o (All-tail (CallsBelow names.functions) line lines h))
 
-block_target : (names : Given) (b : ℕ) → b < length names.function.blocks.items → IsTarget names (names.first_block + b)
-block_target names b h = inr (inr (inr (inr (inr (b, h, refl)))))
+block_target : (names : Given) (b : ℕ) → b < length names.function.blocks.items → IsTarget names (block_label names b)
+block_target names b h = inr (inr (inr (inr (b, h, refl))))
 
-jump_sound : (names : Given) (whole : List CodeLine) (b : ℕ) → b < length names.function.blocks.items → Sound names whole (call_code 0 (names.first_block + b))
-jump_sound names whole b h = ((refl, tt), ((λ l e. leads names whole (names.first_block + b) _ refl (block_target names b h) l e), tt))
+jump_sound : (names : Given) (whole : List CodeLine) (b : ℕ) → b < length names.function.blocks.items → Sound names whole (call_code 0 (block_label names b))
+jump_sound names whole b h = ((refl, tt), ((λ l e. leads names whole (block_label names b) _ refl (block_target names b h) l e), tt))
 
-onward_sound : (names : Given) (whole : List CodeLine) (falls : Bool) (b : ℕ) → b < length names.function.blocks.items → Sound names whole (onward_code falls (names.first_block + b))
+onward_sound : (names : Given) (whole : List CodeLine) (falls : Bool) (b : ℕ) → b < length names.function.blocks.items → Sound names whole (onward_code falls (block_label names b))
 onward_sound names whole true b h = (tt, tt)
 onward_sound names whole false b h = jump_sound names whole b h
 
@@ -118,25 +118,25 @@ onward_sound names whole false b h = jump_sound names whole b h
 abbrev pub IsFewWhere : Distance → List CodeLine → Type 0
 IsFewWhere distance whole = distance ≡ Near → length whole ≤ 1023
 
-near_leads : (names : Given) (whole : List CodeLine) (holds : Bool) (t : Test) (b : ℕ) (line : CodeLine) → line.line.op ≡ test_op holds t → length whole ≤ 1023 → b < length names.function.blocks.items → (l : ℕ) → Some (names.first_block + b) ≡ Some l → LeadsTo names whole line l
+near_leads : (names : Given) (whole : List CodeLine) (holds : Bool) (t : Test) (b : ℕ) (line : CodeLine) → line.line.op ≡ test_op holds t → length whole ≤ 1023 → b < length names.function.blocks.items → (l : ℕ) → Some (block_label names b) ≡ Some l → LeadsTo names whole line l
 near_leads names whole holds t b line op few h l e =
-    let same : names.first_block + b ≡ l = cc in
+    let same : block_label names b ≡ l = cc in
     let near : IsNear names whole line l = record { branches = ap format_of op ∙ test_branches holds t; few = few; block = (b, h, sym same) } in
     record { far = inr near; to = subst (IsTarget names) same (block_target names b h) }
 
-test_sound : (names : Given) (whole : List CodeLine) (distance : Distance) (holds : Bool) (t : Test) (b : ℕ) → IsFewWhere distance whole → b < length names.function.blocks.items → Sound names whole (test_code distance holds t (names.first_block + b))
+test_sound : (names : Given) (whole : List CodeLine) (distance : Distance) (holds : Bool) (t : Test) (b : ℕ) → IsFewWhere distance whole → b < length names.function.blocks.items → Sound names whole (test_code distance holds t (block_label names b))
 test_sound names whole Near holds t b few h = ((refl, tt), ((λ l e. near_leads names whole holds t b _ refl (few refl) h l e), tt))
 test_sound names whole Far holds t b few h = let j = jump_sound names whole b h in ((refl, j.0), ((λ l e. absurd cc), j.1))
 
-branch_sound : (names : Given) (whole : List CodeLine) (distance : Distance) (next : Option ℕ) (t : Test) (x y : ℕ) → IsFewWhere distance whole → x < length names.function.blocks.items → y < length names.function.blocks.items → Sound names whole (branch_code distance next t (names.first_block + x) (names.first_block + y))
-branch_sound names whole distance next t x y few h i = by (is_next next (names.first_block + x))
+branch_sound : (names : Given) (whole : List CodeLine) (distance : Distance) (next : Option ℕ) (t : Test) (x y : ℕ) → IsFewWhere distance whole → x < length names.function.blocks.items → y < length names.function.blocks.items → Sound names whole (branch_code distance next t (block_label names x) (block_label names y))
+branch_sound names whole distance next t x y few h i = by (is_next next (block_label names x))
   where
-    by : (b : Bool) → Sound names whole (if b then test_code distance false t (names.first_block + y) else test_code distance true t (names.first_block + x) ++ onward_code (is_next next (names.first_block + y)) (names.first_block + y))
+    by : (b : Bool) → Sound names whole (if b then test_code distance false t (block_label names y) else test_code distance true t (block_label names x) ++ onward_code (is_next next (block_label names y)) (block_label names y))
     by true = test_sound names whole distance false t y few i
-    by false = both names whole (test_code distance true t (names.first_block + x)) (onward_code (is_next next (names.first_block + y)) (names.first_block + y)) (test_sound names whole distance true t x few h) (onward_sound names whole (is_next next (names.first_block + y)) y i)
+    by false = both names whole (test_code distance true t (block_label names x)) (onward_code (is_next next (block_label names y)) (block_label names y)) (test_sound names whole distance true t x few h) (onward_sound names whole (is_next next (block_label names y)) y i)
 
-exit_sound : (names : Given) (whole : List CodeLine) (distance : Distance) (next : Option ℕ) (bare_ : Bool) (frame : ℕ) (taken : Option Test) (exit : Exit) → IsFewWhere distance whole → ExitThere (length names.function.blocks.items) exit → Sound names whole (exit_code distance next bare_ names.first_block frame taken exit)
-exit_sound names whole distance next bare_ frame taken (Jump b) few h = onward_sound names whole (not bare_ && is_next next (names.first_block + b)) b h
+exit_sound : (names : Given) (whole : List CodeLine) (distance : Distance) (next : Option ℕ) (bare_ : Bool) (frame : ℕ) (taken : Option Test) (exit : Exit) → IsFewWhere distance whole → ExitThere (length names.function.blocks.items) exit → Sound names whole (exit_code distance next bare_ names.first_block frame taken (led (leads_in names) exit))
+exit_sound names whole distance next bare_ frame taken (Jump b) few h = onward_sound names whole (not bare_ && is_next next (block_label names b)) b h
 exit_sound names whole distance next bare_ frame taken (Turn b) few h = jump_sound names whole b h
 exit_sound names whole distance next bare_ frame taken (Branch on x y) few h = branch_sound names whole distance next (test_or taken on) x y few h.0 h.1
 exit_sound names whole distance next bare_ frame taken (Return None) few h = bare names whole (result_code None ++ leave_code frame) (refl, (refl, bare_append (adds_code 2 frame) _ (adds_bare 2 frame) (refl, tt)))
@@ -150,7 +150,7 @@ pub record IsKnown (names : Given) (live : ℕ → ℕ → Bool) (distance : Dis
 
 -- the body of a block, before it has its label
 abbrev pub body : Laying → ℕ → Option ℕ → Block → List CodeLine
-body laying b next block = taking_code laying.at (laying.cut b) (behind_each laying.live block.lines.items block.exit) laying.distance next laying.first laying.frame (taken_test laying.live block.lines.items block.exit) block.lines.items block.exit
+body laying b next block = taking_code laying.at (laying.cut b) (behind_each laying.live block.lines.items block.exit) laying.distance next laying.first laying.frame (taken_test laying.live block.lines.items block.exit) block.lines.items (led (leads_of laying) block.exit)
 
 body_sound : (names : Given) (live : ℕ → ℕ → Bool) (distance : Distance) (whole : List CodeLine) (b : ℕ) (next : Option ℕ) (block : Block) → IsKnown names live distance whole → IsClosedBlock names block → Sound names whole (body (laying_of names live distance) b next block)
 body_sound names live distance whole b next block k h =
@@ -160,7 +160,7 @@ body_sound names live distance whole b next block k h =
     let t = takes live block.lines.items block.exit in
     let needed : ℕ → ℕ → Bool = behind_each live block.lines.items block.exit in
     let lines : List CodeLine = lines_code laying.at (laying.cut b) needed None 0 own in
-    both names whole lines (exit_code distance next (is_empty lines) names.first_block names.layout.frame taken block.exit) (lines_sound names whole laying.at (laying.cut b) needed None 0 own (k.entries b) (all_left (CallsBelow names.functions) own t.tail (subst (All (CallsBelow names.functions)) (sym t.whole) h.calls))) (exit_sound names whole distance next (is_empty lines) names.layout.frame taken block.exit k.few h.edges)
+    both names whole lines (exit_code distance next (is_empty lines) names.first_block names.layout.frame taken (led (leads_in names) block.exit)) (lines_sound names whole laying.at (laying.cut b) needed None 0 own (k.entries b) (all_left (CallsBelow names.functions) own t.tail (subst (All (CallsBelow names.functions)) (sym t.whole) h.calls))) (exit_sound names whole distance next (is_empty lines) names.layout.frame taken block.exit k.few h.edges)
 
 found_lead : (names : Given) (live : ℕ → ℕ → Bool) (distance : Distance) (whole : List CodeLine) (b : ℕ) (next : Option ℕ) (block : Option Block) → IsKnown names live distance whole → ((x : Block) → block ≡ Some x → IsClosedBlock names x) → Lead names whole (found_code (laying_of names live distance) b next block)
 found_lead names live distance whole b next None k h = tt
@@ -177,7 +177,7 @@ laid_lead names live distance whole (b ∷ rest) k =
 enter_sound : (names : Given) (whole : List CodeLine) → Sound names whole enter_code
 enter_sound names whole = (
   (refl, (refl, (refl, (refl, (refl, tt))))),
-  ((λ l e. absurd cc), ((λ l e. absurd cc), ((λ l e. leads names whole 35 _ refl (inr (inr (inr (inl refl)))) l e), ((λ l e. absurd cc), ((λ l e. absurd cc), tt))))),
+  ((λ l e. absurd cc), ((λ l e. absurd cc), ((λ l e. leads names whole 35 _ refl (inr (inr (inl refl))) l e), ((λ l e. absurd cc), ((λ l e. absurd cc), tt))))),
 )
 
 prologue_sound : (names : Given) (whole : List CodeLine) (frame : ℕ) → Sound names whole (prologue_code frame)
@@ -188,7 +188,7 @@ function_lead names live distance whole i k =
     let head : List CodeLine = prologue_code names.layout.frame in
     lead_append names whole (labelled (entry_label i) head) (blocks_code (laying_of names live distance))
     (lead_labelled names whole (entry_label i) head (prologue_sound names whole names.layout.frame).1)
-    (laid_lead names live distance whole (laid_order names.function.entry (length names.function.blocks.items)) k)
+    (laid_lead names live distance whole (kept_order (laying_of names live distance)) k)
 
 -- ---- labels
 
@@ -227,7 +227,7 @@ pub record LabelThere (laying : Laying) (k : ℕ) (order : List ℕ) (b : ℕ) :
 
 found_has : (laying : Laying) (b : ℕ) (next : Option ℕ) (block : Option Block) (x : Block) → block ≡ Some x → HasLabel (found_code laying b next block) 0 (laying.first + b)
 found_has laying b next None x e = absurd cc
-found_has laying b next (Some block) x e = first_has (body laying b next block) (laying.first + b) (ended_some laying.distance next laying.first laying.frame (taken_test laying.live block.lines.items block.exit) (lines_code laying.at (laying.cut b) (behind_each laying.live block.lines.items block.exit) None 0 (own_lines (taken_test laying.live block.lines.items block.exit) block.lines.items)) block.exit)
+found_has laying b next (Some block) x e = first_has (body laying b next block) (laying.first + b) (ended_some laying.distance next laying.first laying.frame (taken_test laying.live block.lines.items block.exit) (lines_code laying.at (laying.cut b) (behind_each laying.live block.lines.items block.exit) None 0 (own_lines (taken_test laying.live block.lines.items block.exit) block.lines.items)) (led (leads_of laying) block.exit))
 
 laid_there : (laying : Laying) (k : ℕ) (order : List ℕ) (b : ℕ) (block : Block) → Distinct order → Among order b → slice_get laying.blocks b ≡ Some block → LabelThere laying k order b
 laid_there laying k [] b block d a e = absurd a
@@ -253,17 +253,21 @@ laid_there laying k (x ∷ rest) b block d a e =
 
 pub function_only : (names : Given) (live : ℕ → ℕ → Bool) (distance : Distance) (whole : List CodeLine) (i : ℕ) → IsKnown names live distance whole → names.function.entry < length names.function.blocks.items → (k l : ℕ) → HasLabel (function_code i (laying_of names live distance)) k l → ((k ≡ 0) × (l ≡ entry_label i)) ⊎ ((b : ℕ) × (b < length names.function.blocks.items) × (k ≡ starts_of (laying_of names live distance) b) × (l ≡ names.first_block + b))
 function_only names live distance whole i known h k l a =
+    let laying : Laying = laying_of names live distance in
     let head : List CodeLine = prologue_code names.layout.frame in
     let entry : ℕ = names.function.entry in
     let count : ℕ = length names.function.blocks.items in
-    elim (label_split (labelled (entry_label i) head) (blocks_code (laying_of names live distance)) k l a) [
+    let order : List ℕ = laid_order entry count in
+    elim (label_split (labelled (entry_label i) head) (blocks_code laying) k l a) [
       | inl x ↦ inl (only_first head (entry_label i) k l (prologue_sound names whole names.layout.frame).0 x)
       | inr x ↦
-          (let r = laid_only names live distance whole (after 0 head) (laid_order entry count) x.0 l known (order_distinct entry count) x.1 in
+          (let r = laid_only names live distance whole (after 0 head) (kept_order laying) x.0 l known (kept_distinct (leads_of laying) order (order_distinct entry count)) x.1 in
+          let is = kept_are (leads_of laying) order r.b r.among in
           let e = x.2 in
           let q = after_length 0 head in
           let s = length_labelled (entry_label i) head in
-          inr (r.b, order_below entry count h r.b r.among, (let z : k ≡ after 0 head + x.0 = omega arith in z ∙ r.line), r.label))
+          let at_start : starts_in laying (after 0 head) (kept_order laying) r.b ≡ starts_of laying r.b = ap (starts_in laying (after 0 head) (kept_order laying)) (sym is.1) in
+          inr (r.b, order_below entry count h r.b is.0, (let z : k ≡ after 0 head + x.0 = omega arith in z ∙ r.line ∙ at_start), r.label))
     ]
 
 pub function_entry : (i : ℕ) (laying : Laying) → HasLabel (function_code i laying) 0 (entry_label i)
@@ -272,13 +276,17 @@ function_entry i laying =
     label_left (labelled (entry_label i) head) (blocks_code laying) 0 (entry_label i)
     (first_has head (entry_label i) (let e = length-append (adds_code 6 (2 ^ 32 - laying.frame)) enter_code in omega arith))
 
-pub function_blocks : (i : ℕ) (laying : Laying) (b : ℕ) → b < length laying.blocks → HasLabel (function_code i laying) (starts_of laying b) (laying.first + b)
+pub function_blocks : (i : ℕ) (laying : Laying) (b : ℕ) → b < length laying.blocks → HasLabel (function_code i laying) (starts_of laying b) (laying.first + leads_of laying b)
 function_blocks i laying b h =
     let head : List CodeLine = prologue_code laying.frame in
     let rest : List CodeLine = blocks_code laying in
     let count : ℕ = length laying.blocks in
-    let block = there laying.blocks b h in
-    let r = laid_there laying (after 0 head) (laid_order laying.entry count) b block.0 (order_distinct laying.entry count) (order_all laying.entry count b h) block.1 in
+    let order : List ℕ = laid_order laying.entry count in
+    let to : ℕ = leads_of laying b in
+    let inside : to < count = lead_below laying.blocks laying.entry b count h in
+    let block = there laying.blocks to inside in
+    let among : Among (kept_order laying) to = kept_all (leads_of laying) order to (order_all laying.entry count to inside) (lead_lead laying.blocks laying.entry b) in
+    let r = laid_there laying (after 0 head) (kept_order laying) to block.0 (kept_distinct (leads_of laying) order (order_distinct laying.entry count)) among block.1 in
     let q = after_length 0 head in
     let s = length_labelled (entry_label i) head in
-    label_right (labelled (entry_label i) head) rest r.j (starts_of laying b) (laying.first + b) (sym r.line ∙ omega arith) r.has
+    label_right (labelled (entry_label i) head) rest r.j (starts_of laying b) (laying.first + to) (sym r.line ∙ omega arith) r.has

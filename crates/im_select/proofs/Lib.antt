@@ -4,7 +4,9 @@ pub mod Splitting
 pub mod Addressing
 pub mod Shifting
 pub mod Ordering
+pub mod Following
 pub mod Taking
+pub mod Services
 pub mod Selecting
 pub mod Pairing
 pub mod Low

@@ -15,11 +15,13 @@ use Rattle.im_block.specs.declared.code.Exit.{Exit}
 use Rattle.im_block.specs.declared.code.Exit.TheVariants.{Jump, Turn, Branch, Return}
 use Rattle.im_block.specs.declared.code.Block.{Block}
 use Rattle.im_block.specs.Wellformed.{accesses_of_line, accesses_of_lines, accesses_of_blocks}
+use Rattle.im_select.specs.Leads.{led}
 use Rattle.im_select.specs.declared.branching.Test.{Test}
 use Rattle.im_select.specs.declared.distance.Distance.{Distance}
 use Rattle.im_select.specs.declared.distance.Distance.TheVariants.{Near, Far}
-use Rattle.im_select.specs.Emitted.{constant_code, displaced_code, adds_code, place_number, place_code, copied_code, scaled_code, address_code, computed_code, immediate_line, passed_by, by_or, way_code, line_code, lines_code, behind_each, onward_code, test_code, test_or, taken_test, own_lines, is_next, branch_code, exit_code, is_empty, block_code, Laying, next_label, found_code, laid_block, laid_code, laid_order, blocks_code, enter_code, prologue_code, function_code, labelled, entry_label}
+use Rattle.im_select.specs.Emitted.{constant_code, displaced_code, adds_code, place_number, place_code, copied_code, scaled_code, address_code, computed_code, immediate_line, passed_by, by_or, way_code, line_code, lines_code, behind_each, onward_code, test_code, test_or, taken_test, own_lines, is_next, branch_code, exit_code, is_empty, block_code, Laying, leads_of, next_label, found_code, laid_block, laid_code, laid_order, kept_order, blocks_code, enter_code, prologue_code, function_code, labelled, entry_label}
 use Rattle.im_select.specs.Selects.{accesses_in, causes_in, causes_of_line, causes_of_lines, causes_of_blocks, if_found, blocks_at, laid_blocks}
+use Rattle.im_select.proofs.Following.{kept_accesses, kept_causes}
 use Rattle.im_select.proofs.Taking.{IsTaken, Nothing, Comparing, takes}
 use Rattle.im_select.proofs.Plain.{constant_bare, displaced_bare, adds_bare, place_bare, copied_bare, scaled_bare, address_bare, accesses_append, causes_append, bare_accesses, bare_causes, accesses_behind, causes_behind, accesses_labelled, causes_labelled}
 
@@ -158,20 +160,20 @@ tail_accesses live [] tail exit taken (Nothing exit') = refl
 tail_accesses live [] tail exit taken (Comparing to op kind left right a b x y) = refl
 tail_accesses live (line ∷ lines) tail exit taken t = ap (λ z. accesses_of_line line ++ z) (tail_accesses live lines tail exit taken t)
 
-block_accesses : (at : Name → ℕ) (m : ℕ → ℕ) (live : ℕ → ℕ → Bool) (distance : Distance) (next : Option ℕ) (first frame b : ℕ) (block : Block) → accesses_in (block_code at m live distance next first frame b block) ≡ accesses_of_lines block.lines.items
-block_accesses at m live distance next first frame b block =
+block_accesses : (at : Name → ℕ) (m : ℕ → ℕ) (live : ℕ → ℕ → Bool) (leads : ℕ → ℕ) (distance : Distance) (next : Option ℕ) (first frame b : ℕ) (block : Block) → accesses_in (block_code at m live leads distance next first frame b block) ≡ accesses_of_lines block.lines.items
+block_accesses at m live leads distance next first frame b block =
     let taken : Option Test = taken_test live block.lines.items block.exit in
     let own : List Line = own_lines taken block.lines.items in
     let t = takes live block.lines.items block.exit in
     let needed : ℕ → ℕ → Bool = behind_each live block.lines.items block.exit in
     let lines : List CodeLine = lines_code at m needed None 0 own in
-    let exit : List CodeLine = exit_code distance next (is_empty lines) first frame taken block.exit in
-    accesses_labelled (first + b) (lines ++ exit) ∙ accesses_append lines exit ∙ ap (λ z. accesses_in lines ++ z) (exit_accesses distance next (is_empty lines) first frame taken block.exit) ∙ append-nil (accesses_in lines) ∙ lines_accesses at m needed None 0 own
+    let exit : List CodeLine = exit_code distance next (is_empty lines) first frame taken (led leads block.exit) in
+    accesses_labelled (first + b) (lines ++ exit) ∙ accesses_append lines exit ∙ ap (λ z. accesses_in lines ++ z) (exit_accesses distance next (is_empty lines) first frame taken (led leads block.exit)) ∙ append-nil (accesses_in lines) ∙ lines_accesses at m needed None 0 own
     ∙ tail_accesses live own t.tail block.exit taken t.is ∙ ap accesses_of_lines t.whole
 
 found_accesses : (laying : Laying) (b : ℕ) (next : Option ℕ) (block : Option Block) (rest : List Block) → accesses_in (found_code laying b next block) ++ accesses_of_blocks rest ≡ accesses_of_blocks (if_found block rest)
 found_accesses laying b next None rest = refl
-found_accesses laying b next (Some block) rest = ap (λ z. z ++ accesses_of_blocks rest) (block_accesses laying.at (laying.cut b) laying.live laying.distance next laying.first laying.frame b block)
+found_accesses laying b next (Some block) rest = ap (λ z. z ++ accesses_of_blocks rest) (block_accesses laying.at (laying.cut b) laying.live (leads_of laying) laying.distance next laying.first laying.frame b block)
 
 laid_accesses : (laying : Laying) (order : List ℕ) → accesses_in (laid_code laying order) ≡ accesses_of_blocks (blocks_at laying.blocks order)
 laid_accesses laying [] = refl
@@ -186,7 +188,8 @@ function_accesses i laying =
     let rest : List CodeLine = blocks_code laying in
     accesses_append (labelled (entry_label i) head) rest
     ∙ ap (λ z. z ++ accesses_in rest) (accesses_labelled (entry_label i) head ∙ accesses_behind (adds_code 6 (2 ^ 32 - laying.frame)) enter_code (adds_bare 6 (2 ^ 32 - laying.frame)))
-    ∙ laid_accesses laying (laid_order laying.entry (length laying.blocks))
+    ∙ laid_accesses laying (kept_order laying)
+    ∙ kept_accesses laying.blocks laying.entry (laid_order laying.entry (length laying.blocks))
 
 onward_causes : (falls : Bool) (label : ℕ) → causes_in (onward_code falls label) ≡ []
 onward_causes true label = refl
@@ -219,20 +222,20 @@ tail_causes live [] tail exit taken (Nothing exit') = refl
 tail_causes live [] tail exit taken (Comparing to op kind left right a b x y) = refl
 tail_causes live (line ∷ lines) tail exit taken t = ap (λ z. causes_of_line line ++ z) (tail_causes live lines tail exit taken t)
 
-block_causes : (at : Name → ℕ) (m : ℕ → ℕ) (live : ℕ → ℕ → Bool) (distance : Distance) (next : Option ℕ) (first frame b : ℕ) (block : Block) → causes_in (block_code at m live distance next first frame b block) ≡ causes_of_lines block.lines.items
-block_causes at m live distance next first frame b block =
+block_causes : (at : Name → ℕ) (m : ℕ → ℕ) (live : ℕ → ℕ → Bool) (leads : ℕ → ℕ) (distance : Distance) (next : Option ℕ) (first frame b : ℕ) (block : Block) → causes_in (block_code at m live leads distance next first frame b block) ≡ causes_of_lines block.lines.items
+block_causes at m live leads distance next first frame b block =
     let taken : Option Test = taken_test live block.lines.items block.exit in
     let own : List Line = own_lines taken block.lines.items in
     let t = takes live block.lines.items block.exit in
     let needed : ℕ → ℕ → Bool = behind_each live block.lines.items block.exit in
     let lines : List CodeLine = lines_code at m needed None 0 own in
-    let exit : List CodeLine = exit_code distance next (is_empty lines) first frame taken block.exit in
-    causes_labelled (first + b) (lines ++ exit) ∙ causes_append lines exit ∙ ap (λ z. causes_in lines ++ z) (exit_causes distance next (is_empty lines) first frame taken block.exit) ∙ append-nil (causes_in lines) ∙ lines_causes at m needed None 0 own
+    let exit : List CodeLine = exit_code distance next (is_empty lines) first frame taken (led leads block.exit) in
+    causes_labelled (first + b) (lines ++ exit) ∙ causes_append lines exit ∙ ap (λ z. causes_in lines ++ z) (exit_causes distance next (is_empty lines) first frame taken (led leads block.exit)) ∙ append-nil (causes_in lines) ∙ lines_causes at m needed None 0 own
     ∙ tail_causes live own t.tail block.exit taken t.is ∙ ap causes_of_lines t.whole
 
 found_causes : (laying : Laying) (b : ℕ) (next : Option ℕ) (block : Option Block) (rest : List Block) → causes_in (found_code laying b next block) ++ causes_of_blocks rest ≡ causes_of_blocks (if_found block rest)
 found_causes laying b next None rest = refl
-found_causes laying b next (Some block) rest = ap (λ z. z ++ causes_of_blocks rest) (block_causes laying.at (laying.cut b) laying.live laying.distance next laying.first laying.frame b block)
+found_causes laying b next (Some block) rest = ap (λ z. z ++ causes_of_blocks rest) (block_causes laying.at (laying.cut b) laying.live (leads_of laying) laying.distance next laying.first laying.frame b block)
 
 laid_causes : (laying : Laying) (order : List ℕ) → causes_in (laid_code laying order) ≡ causes_of_blocks (blocks_at laying.blocks order)
 laid_causes laying [] = refl
@@ -247,4 +250,5 @@ function_causes i laying =
     let rest : List CodeLine = blocks_code laying in
     causes_append (labelled (entry_label i) head) rest
     ∙ ap (λ z. z ++ causes_in rest) (causes_labelled (entry_label i) head ∙ causes_behind (adds_code 6 (2 ^ 32 - laying.frame)) enter_code (adds_bare 6 (2 ^ 32 - laying.frame)))
-    ∙ laid_causes laying (laid_order laying.entry (length laying.blocks))
+    ∙ laid_causes laying (kept_order laying)
+    ∙ kept_causes laying.blocks laying.entry (laid_order laying.entry (length laying.blocks))

@@ -17,6 +17,7 @@ use Rattle.im_block.specs.declared.code.Exit.TheVariants.{Jump, Turn, Branch, Re
 use Rattle.im_block.specs.declared.unit.Function.{Function}
 use Rattle.im_block.specs.Wellformed.{ExitThere}
 use Rattle.im_alloc_placed.specs.Placed.{IsPlacedLine, IsPlacedExit}
+use Rattle.im_select.specs.Leads.{lead, led}
 use Rattle.im_select_relation.specs.Selected.{IsEntry, IsDead}
 use Rattle.im_select_relation.specs.Symbolic.{Lines, Plain, Aimed, JumpsIn, ContinuesIn, Falls, Leaps, TestedIn, Reached, Missed, Hopped, Skipped, LeavesIn, ExitIn, Decides, FoldedIn, ComputesBy, StandsIn, SelectedIn, Around, PrologueIn}
 use Rattle.im_live.specs.Reads.{lives_before, reads_first, IsLive}
@@ -27,7 +28,7 @@ use Rattle.im_select.specs.declared.distance.Distance.TheVariants.{Near, Far}
 use Rattle.im_select.specs.Emitted.{adds_code, leave_code, is_next, onward_code, both_ways, test_line, test_code, branch_code, exit_code, word_taken, passed_by, line_code, lines_code, enter_code, prologue_code}
 use Rattle.im_select.specs.Given.{Given}
 use Rattle.im_select.specs.Places.{CallsBelow}
-use Rattle.im_select.specs.Selects.{Agrees}
+use Rattle.im_select.specs.Selects.{Agrees, block_label}
 use Rattle.im_select.proofs.Ordering.{same_number}
 use Rattle.im_select.proofs.Standing.{At, after, after_append, at_left, at_right}
 use Rattle.im_select.proofs.Taking.{IsTaken, Nothing, Comparing}
@@ -40,12 +41,16 @@ leaves_in w k frame small a =
     let r = at_right w (suc k) (adds_code 2 frame) last a.1 in
     record { link = a.0; next = after (suc k) (adds_code 2 frame); raised = adds_in w (suc k) 2 frame small (at_left w (suc k) (adds_code 2 frame) last a.1); returns = r.0 }
 
-jump_in : (w : Lines) (given : Given) (k b : ℕ) → Agrees w given → b < length given.function.blocks.items → Aimed w k (jumping 0 0) (given.first_block + b) → JumpsIn w k (w.block b)
+-- where a function's blocks lead
+abbrev pub leads_in : Given → ℕ → ℕ
+leads_in given = lead given.function.blocks.items given.function.entry
+
+jump_in : (w : Lines) (given : Given) (k b : ℕ) → Agrees w given → b < length given.function.blocks.items → Aimed w k (jumping 0 0) (block_label given b) → JumpsIn w k (w.block b)
 jump_in w given k b g h a = subst (JumpsIn w k) (sym (g.blocks b h)) a
 
--- where a block's label stands next, it begins at k
+-- where the label by which a block is gone to stands next, it begins at k
 abbrev pub Follows : Given → (ℕ → ℕ) → Option ℕ → ℕ → Type 0
-Follows given starts next k = (b : ℕ) → next ≡ Some (given.first_block + b) → k ≡ starts b
+Follows given starts next k = (b : ℕ) → next ≡ Some (block_label given b) → k ≡ starts b
 
 next_is : (next : Option ℕ) (label : ℕ) → is_next next label ≡ true → next ≡ Some label
 next_is None label e = absurd cc
@@ -55,31 +60,31 @@ both_so : (a b : Bool) → (a && b) ≡ true → b ≡ true
 both_so true b e = e
 both_so false b e = absurd cc
 
-onward_in : (w : Lines) (given : Given) (starts : ℕ → ℕ) (k : ℕ) (next : Option ℕ) (falls : Bool) (b : ℕ) → Agrees w given → b < length given.function.blocks.items → (falls ≡ true → is_next next (given.first_block + b) ≡ true) → Follows given starts next (after k (onward_code falls (given.first_block + b))) → At w k (onward_code falls (given.first_block + b)) → ContinuesIn w starts k b
-onward_in w given starts k next true b g h f follows a = Falls (follows b (next_is next (given.first_block + b) (f refl)))
+onward_in : (w : Lines) (given : Given) (starts : ℕ → ℕ) (k : ℕ) (next : Option ℕ) (falls : Bool) (b : ℕ) → Agrees w given → b < length given.function.blocks.items → (falls ≡ true → is_next next (block_label given b) ≡ true) → Follows given starts next (after k (onward_code falls (block_label given b))) → At w k (onward_code falls (block_label given b)) → ContinuesIn w starts k b
+onward_in w given starts k next true b g h f follows a = Falls (follows b (next_is next (block_label given b) (f refl)))
 onward_in w given starts k next false b g h f follows a = Leaps (jump_in w given k b g h a.0)
 
-missed_in : (w : Lines) (given : Given) (starts : ℕ → ℕ) (k : ℕ) (distance : Distance) (t : Test) (x y : ℕ) → Agrees w given → y < length given.function.blocks.items → after k (test_code distance false t (given.first_block + y)) ≡ starts x → At w k (test_code distance false t (given.first_block + y)) → TestedIn w starts k (both_ways t) x y
+missed_in : (w : Lines) (given : Given) (starts : ℕ → ℕ) (k : ℕ) (distance : Distance) (t : Test) (x y : ℕ) → Agrees w given → y < length given.function.blocks.items → after k (test_code distance false t (block_label given y)) ≡ starts x → At w k (test_code distance false t (block_label given y)) → TestedIn w starts k (both_ways t) x y
 missed_in w given starts k Near t x y g h e a = Missed (subst (Aimed w k (test_line false t 0)) (sym (g.blocks y h)) a.0) (Falls e)
 missed_in w given starts k Far t x y g h e a = Skipped a.0 (jump_in w given (suc k) y g h a.1.0) (Falls e)
 
-reached_in : (w : Lines) (given : Given) (starts : ℕ → ℕ) (k : ℕ) (distance : Distance) (next : Option ℕ) (t : Test) (x y : ℕ) → Agrees w given → x < length given.function.blocks.items → y < length given.function.blocks.items → Follows given starts next (after k (test_code distance true t (given.first_block + x) ++ onward_code (is_next next (given.first_block + y)) (given.first_block + y))) → At w k (test_code distance true t (given.first_block + x) ++ onward_code (is_next next (given.first_block + y)) (given.first_block + y)) → TestedIn w starts k (both_ways t) x y
-reached_in w given starts k Near next t x y g h i follows a = Reached (subst (Aimed w k (test_line true t 0)) (sym (g.blocks x h)) a.0) (onward_in w given starts (suc k) next (is_next next (given.first_block + y)) y g i (λ e. e) follows a.1)
-reached_in w given starts k Far next t x y g h i follows a = Hopped a.0 (jump_in w given (suc k) x g h a.1.0) (onward_in w given starts (suc (suc k)) next (is_next next (given.first_block + y)) y g i (λ e. e) follows a.1.1)
+reached_in : (w : Lines) (given : Given) (starts : ℕ → ℕ) (k : ℕ) (distance : Distance) (next : Option ℕ) (t : Test) (x y : ℕ) → Agrees w given → x < length given.function.blocks.items → y < length given.function.blocks.items → Follows given starts next (after k (test_code distance true t (block_label given x) ++ onward_code (is_next next (block_label given y)) (block_label given y))) → At w k (test_code distance true t (block_label given x) ++ onward_code (is_next next (block_label given y)) (block_label given y)) → TestedIn w starts k (both_ways t) x y
+reached_in w given starts k Near next t x y g h i follows a = Reached (subst (Aimed w k (test_line true t 0)) (sym (g.blocks x h)) a.0) (onward_in w given starts (suc k) next (is_next next (block_label given y)) y g i (λ e. e) follows a.1)
+reached_in w given starts k Far next t x y g h i follows a = Hopped a.0 (jump_in w given (suc k) x g h a.1.0) (onward_in w given starts (suc (suc k)) next (is_next next (block_label given y)) y g i (λ e. e) follows a.1.1)
 
 -- where one of two labels stands next or not
 abbrev pub branch_by : Bool → Distance → Option ℕ → Test → ℕ → ℕ → List CodeLine
 branch_by b distance next t there other = if b then test_code distance false t other else test_code distance true t there ++ onward_code (is_next next other) other
 
-branch_in : (w : Lines) (given : Given) (starts : ℕ → ℕ) (k : ℕ) (distance : Distance) (next : Option ℕ) (t : Test) (x y : ℕ) → Agrees w given → x < length given.function.blocks.items → y < length given.function.blocks.items → Follows given starts next (after k (branch_code distance next t (given.first_block + x) (given.first_block + y))) → At w k (branch_code distance next t (given.first_block + x) (given.first_block + y)) → TestedIn w starts k (both_ways t) x y
-branch_in w given starts k distance next t x y g h i = by (is_next next (given.first_block + x)) refl
+branch_in : (w : Lines) (given : Given) (starts : ℕ → ℕ) (k : ℕ) (distance : Distance) (next : Option ℕ) (t : Test) (x y : ℕ) → Agrees w given → x < length given.function.blocks.items → y < length given.function.blocks.items → Follows given starts next (after k (branch_code distance next t (block_label given x) (block_label given y))) → At w k (branch_code distance next t (block_label given x) (block_label given y)) → TestedIn w starts k (both_ways t) x y
+branch_in w given starts k distance next t x y g h i = by (is_next next (block_label given x)) refl
   where
-    by : (b : Bool) → is_next next (given.first_block + x) ≡ b → Follows given starts next (after k (branch_by b distance next t (given.first_block + x) (given.first_block + y))) → At w k (branch_by b distance next t (given.first_block + x) (given.first_block + y)) → TestedIn w starts k (both_ways t) x y
-    by true e follows a = missed_in w given starts k distance t x y g i (follows x (next_is next (given.first_block + x) e)) a
+    by : (b : Bool) → is_next next (block_label given x) ≡ b → Follows given starts next (after k (branch_by b distance next t (block_label given x) (block_label given y))) → At w k (branch_by b distance next t (block_label given x) (block_label given y)) → TestedIn w starts k (both_ways t) x y
+    by true e follows a = missed_in w given starts k distance t x y g i (follows x (next_is next (block_label given x) e)) a
     by false e follows a = reached_in w given starts k distance next t x y g h i follows a
 
-exit_in : (w : Lines) (given : Given) (starts : ℕ → ℕ) (k : ℕ) (distance : Distance) (next : Option ℕ) (bare : Bool) (frame : ℕ) (exit : Exit) → Agrees w given → frame < 2 ^ 32 → IsPlacedExit exit → ExitThere (length given.function.blocks.items) exit → Follows given starts next (after k (exit_code distance next bare given.first_block frame None exit)) → At w k (exit_code distance next bare given.first_block frame None exit) → ExitIn w starts frame k exit
-exit_in w given starts k distance next bare frame (Jump b) g small h t follows a = onward_in w given starts k next (not bare && is_next next (given.first_block + b)) b g t (both_so (not bare) (is_next next (given.first_block + b))) follows a
+exit_in : (w : Lines) (given : Given) (starts : ℕ → ℕ) (k : ℕ) (distance : Distance) (next : Option ℕ) (bare : Bool) (frame : ℕ) (exit : Exit) → Agrees w given → frame < 2 ^ 32 → IsPlacedExit exit → ExitThere (length given.function.blocks.items) exit → Follows given starts next (after k (exit_code distance next bare given.first_block frame None (led (leads_in given) exit))) → At w k (exit_code distance next bare given.first_block frame None (led (leads_in given) exit)) → ExitIn w starts frame k exit
+exit_in w given starts k distance next bare frame (Jump b) g small h t follows a = onward_in w given starts k next (not bare && is_next next (block_label given b)) b g t (both_so (not bare) (is_next next (block_label given b))) follows a
 exit_in w given starts k distance next bare frame (Turn b) g small h t follows a = jump_in w given k b g t a.0
 exit_in w given starts k distance next bare frame (Branch on x y) g small h t follows a = (h, branch_in w given starts k distance next (Nonzero on) x y g t.0 t.1 follows a)
 exit_in w given starts k distance next bare frame (Return None) g small h t follows a = (a.0, leaves_in w (suc k) frame small a.1)
@@ -107,7 +112,7 @@ dead_from blocks live b r is small e n = by (reads_first blocks n b r) refl
     by false h = refl
 
 -- what is left of a block but its own lines, and its exit
-taken_in : (w : Lines) (given : Given) (live : ℕ → ℕ → Bool) (starts : ℕ → ℕ) (distance : Distance) (next : Option ℕ) (bare : Bool) (k frame : ℕ) (tail : List Line) (exit : Exit) (taken : Option Test) → IsLive given.function.blocks.items live → Agrees w given → frame < 2 ^ 32 → IsBlockOf given tail exit → IsTaken live tail exit taken → Follows given starts next (after k (exit_code distance next bare given.first_block frame taken exit)) → At w k (exit_code distance next bare given.first_block frame taken exit) → StandsIn w given.function.blocks.items starts frame k tail exit
+taken_in : (w : Lines) (given : Given) (live : ℕ → ℕ → Bool) (starts : ℕ → ℕ) (distance : Distance) (next : Option ℕ) (bare : Bool) (k frame : ℕ) (tail : List Line) (exit : Exit) (taken : Option Test) → IsLive given.function.blocks.items live → Agrees w given → frame < 2 ^ 32 → IsBlockOf given tail exit → IsTaken live tail exit taken → Follows given starts next (after k (exit_code distance next bare given.first_block frame taken (led (leads_in given) exit))) → At w k (exit_code distance next bare given.first_block frame taken (led (leads_in given) exit)) → StandsIn w given.function.blocks.items starts frame k tail exit
 taken_in w given live starts distance next bare k frame tail exit taken is g small h (Nothing exit') follows a = exit_in w given starts k distance next bare frame exit g small h.leaves h.edges follows a
 taken_in w given live starts distance next bare k frame tail exit taken is g small h (Comparing to op kind left right x y da db) follows a =
     let blocks : List Block = given.function.blocks.items in
@@ -128,7 +133,7 @@ word_cases (Some n) f g = g n refl
 
 module _ (w : Lines) (given : Given) (live : ℕ → ℕ → Bool) (starts : ℕ → ℕ) (own : Name → ℕ) (m : ℕ → ℕ) (needed : ℕ → ℕ → Bool) (distance : Distance) (next : Option ℕ) (bare : Bool) (frame : ℕ) (tail : List Line) (exit : Exit) (taken : Option Test) (o : (j : ℕ) → IsEntry (m j)) (is : IsLive given.function.blocks.items live) (g : Agrees w given) (small : frame < 2 ^ 32) (alike : Alike own w.at (length given.statics) given.function) (t : IsTaken live tail exit taken) where
   abbrev last : List CodeLine
-  last = exit_code distance next bare given.first_block frame taken exit
+  last = exit_code distance next bare given.first_block frame taken (led (leads_in given) exit)
 
   abbrev code : ℕ → List Line → List CodeLine
   code j lines = lines_code own m needed None j lines ++ last

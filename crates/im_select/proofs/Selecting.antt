@@ -1,6 +1,7 @@
 -- What is put for a line is what may stand for it.
 use Rattle.std.proofs.Common.{◌≡◌, ◌<◌, ◌≤◌, ℕ, zero, suc, ◌+◌, ◌^◌, Bool, true, false, List, [], ◌∷◌, Option, Some, None, length, inl, inr, refl, sym, ap, ◌∙◌, subst, eq-eqb, arith}
 use Rattle.std.specs.Prelude.{◌==◌, if◌then◌else◌}
+use Rattle.im_num.specs.declared.kind.Kind.{Kind}
 use Rattle.im_num.specs.declared.kind.Kind.TheVariants.{I8, U8, I16, U16, I32, U32, Ptr}
 use Rattle.im_num.specs.Kinds.{word}
 use Rattle.im_rv.specs.declared.instr.Op.TheVariants.{Addi, Add as AddOp, Mul}
@@ -10,15 +11,15 @@ use Rattle.im_select_operators.proofs.Words.{word_small}
 use Rattle.im_store.specs.declared.operators.UnaryOp.TheVariants.{Negate, Complement}
 use Rattle.im_store.specs.declared.operators.Comparison.TheVariants.{Less as LessThan, Greater, LessOrEqual, GreaterOrEqual, Equal, NotEqual}
 use Rattle.im_store.specs.Objects.{Name, Named, Slot}
-use Rattle.im_serve.specs.declared.service.Service.TheVariants.{Getchar, Putchar}
+use Rattle.im_serve.specs.Services.{row, IsNullary, IsUnary}
 use Rattle.im_block.specs.declared.code.Place.{Place}
 use Rattle.im_block.specs.declared.code.Place.TheVariants.{Static, Local, Through}
 use Rattle.im_block.specs.declared.code.Line.{Line}
 use Rattle.im_block.specs.declared.code.Line.TheVariants.{Put, PutNull, Copy, Convert, Unary, Not, Compute, Compare, Move, Distance, Address, Read, Write, Reload, Spill, Cut, Call, Serve}
 use Rattle.im_alloc_placed.specs.Operands.{PlaceAtHome}
 use Rattle.im_alloc_placed.specs.Placed.{IsPlacedLine}
-use Rattle.im_select_relation.specs.Symbolic.{Lines, HasLine, Plain, Aimed, ConstantIn, Small, Large, DisplacedIn, Near, Far, BasedIn, InFrame, InStatic, Behind, AddsIn, Short, Long, Lesser, Larger, NotLarger, NotLesser, Same, Other, Whole, Already, Moved, CopiedIn, Narrowed, Masked, Bytes, Shifted, Multiplied, ScaledIn, SelectedIn, Numbers, Nulls, Copies, Converts, Negates, Complements, Nots, Computes, Compares, Moves, Measures, Addresses, AddressesPage, Fetches, StoresValue, Reloads, Spills, Cuts_, Calls, Gets, Puts_}
-use Rattle.im_select_relation.specs.Selected.{IsHome, IsEntry}
+use Rattle.im_select_relation.specs.Symbolic.{Lines, HasLine, Plain, Aimed, ConstantIn, Small, Large, DisplacedIn, Near, Far, BasedIn, InFrame, InStatic, Behind, AddsIn, Short, Long, Lesser, Larger, NotLarger, NotLesser, Same, Other, Whole, Already, Moved, CopiedIn, Narrowed, Masked, Bytes, Shifted, Multiplied, ScaledIn, SelectedIn, Numbers, Nulls, Copies, Converts, Negates, Complements, Nots, Computes, Compares, Moves, Measures, Addresses, AddressesPage, Fetches, StoresValue, Reloads, Spills, Cuts_, Calls, Serves_}
+use Rattle.im_select_relation.specs.Selected.{IsHome, IsEntry, argument_register}
 use Rattle.im_select.specs.Emitted.{high_of, low_of, constant_by, constant_code, displaced_by, displaced_code, displaced_base, adds_by, adds_code, place_number, place_code, place_base, moved_code, copied_code, step_op, shift_below, shift_of, shifts_code, scaled_code, scaled_register, based_code, address_code, line_code}
 use Rattle.im_select.specs.Given.{Given}
 use Rattle.im_select.specs.Places.{CallsBelow}
@@ -118,6 +119,15 @@ Words at (Reload to slot access) = at (Slot slot) < 2 ^ 32
 Words at (Spill slot from access) = at (Slot slot) < 2 ^ 32
 Words at line = Unit {0}
 
+-- a service's argument is in x10
+no_argument : (parameter : Option Kind) → IsNullary parameter → argument_register parameter ≡ None
+no_argument None h = refl
+no_argument (Some kind) h = absurd h
+
+one_argument : (parameter : Option Kind) (from : ℕ) → from ≡ 10 → IsUnary parameter → argument_register parameter ≡ Some from
+one_argument None from e h = absurd h
+one_argument (Some kind) from e h = ap Some (sym e)
+
 pub selected_in : (w : Lines) (given : Given) (k m : ℕ) → IsEntry m → Agrees w given → (line : Line) → IsPlacedLine (length given.statics) given.function line → CallsBelow given.functions line → Words w.at line → At w k (line_code w.at m line) → SelectedIn w k line (after k (line_code w.at m line))
 selected_in w given k m o g (Put to z) h c s a = Numbers to z _ h (constant_in w k to (word z) (word_small z) a)
 selected_in w given k m o g (PutNull to) h c s a = Nulls to h a.0
@@ -175,9 +185,9 @@ selected_in w given k m o g (Cut cause) h c s a = Cuts_ cause m o (subst (λ z. 
 selected_in w given k m o g (Call to i base count) h c s a =
     let call : Aimed w k (jumping 1 0) (w.entry i) = subst (Aimed w k (jumping 1 0)) (sym (g.entries i c)) a.0 in
     subst (λ z. SelectedIn w k (Call z i base count) (suc k)) (sym h.0) (subst (λ z. SelectedIn w k (Call 10 i z count) (suc k)) (sym h.1) (Calls i count call))
-selected_in w given k m o g (Serve to Getchar None) h c s a = subst (λ z. SelectedIn w k (Serve z Getchar None) (suc k)) (sym h.0) (Gets (subst (Aimed w k (jumping 1 0)) (sym g.gets) a.0))
-selected_in w given k m o g (Serve to Putchar None) h c s a = absurd h.1
-selected_in w given k m o g (Serve to Getchar (Some from)) h c s a = absurd h.2
-selected_in w given k m o g (Serve to Putchar (Some from)) h c s a =
-    let call : Aimed w k (jumping 1 0) w.puts = subst (Aimed w k (jumping 1 0)) (sym g.puts) a.0 in
-    subst (λ z. SelectedIn w k (Serve z Putchar (Some from)) (suc k)) (sym h.0) (subst (λ z. SelectedIn w k (Serve 10 Putchar (Some z)) (suc k)) (sym h.1) (Puts_ call))
+selected_in w given k m o g (Serve to service None) h c s a =
+    let call : Aimed w k (jumping 1 0) (w.serves service) = subst (Aimed w k (jumping 1 0)) (sym (g.serves service)) a.0 in
+    subst (λ z. SelectedIn w k (Serve z service None) (suc k)) (sym h.0) (subst (λ z. SelectedIn w k (Serve 10 service z) (suc k)) (no_argument (row service).parameter h.1) (Serves_ service call))
+selected_in w given k m o g (Serve to service (Some from)) h c s a =
+    let call : Aimed w k (jumping 1 0) (w.serves service) = subst (Aimed w k (jumping 1 0)) (sym (g.serves service)) a.0 in
+    subst (λ z. SelectedIn w k (Serve z service (Some from)) (suc k)) (sym h.0) (subst (λ z. SelectedIn w k (Serve 10 service z) (suc k)) (one_argument (row service).parameter from h.1 h.2) (Serves_ service call))

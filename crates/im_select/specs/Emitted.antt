@@ -26,6 +26,7 @@ use Rattle.im_block.specs.declared.code.Exit.TheVariants.{Jump, Turn, Branch, Re
 use Rattle.im_block.specs.declared.code.Block.{Block}
 use Rattle.im_live.specs.Reads.{lives_before}
 use Rattle.im_live.specs.Words.{has}
+use Rattle.im_select.specs.Leads.{lead, led, kept}
 use Rattle.im_select_relation.specs.Selected.{ones, Test as BothWays, nonzero, comparing}
 use Rattle.im_select.specs.declared.branching.Test.{Test}
 use Rattle.im_select.specs.declared.branching.Test.TheVariants.{Nonzero, Compares}
@@ -385,9 +386,9 @@ ended_code distance next first frame taken lines exit = lines ++ exit_code dista
 abbrev pub taking_code : (Name → ℕ) → (ℕ → ℕ) → (ℕ → ℕ → Bool) → Distance → Option ℕ → ℕ → ℕ → Option Test → List Line → Exit → List CodeLine
 taking_code at m needed distance next first frame taken lines exit = ended_code distance next first frame taken (lines_code at m needed None 0 (own_lines taken lines)) exit
 
--- m: the entries of its lines; live: what lives at the starts of blocks; next: the label that stands behind it
-abbrev pub block_code : (Name → ℕ) → (ℕ → ℕ) → (ℕ → ℕ → Bool) → Distance → Option ℕ → ℕ → ℕ → ℕ → Block → List CodeLine
-block_code at m live distance next first frame b block = labelled (first + b) (taking_code at m (behind_each live block.lines.items block.exit) distance next first frame (taken_test live block.lines.items block.exit) block.lines.items block.exit)
+-- m: the entries of its lines; live: what lives at the starts of blocks; leads: where blocks lead; next: the label that stands behind it
+abbrev pub block_code : (Name → ℕ) → (ℕ → ℕ) → (ℕ → ℕ → Bool) → (ℕ → ℕ) → Distance → Option ℕ → ℕ → ℕ → ℕ → Block → List CodeLine
+block_code at m live leads distance next first frame b block = labelled (first + b) (taking_code at m (behind_each live block.lines.items block.exit) distance next first frame (taken_test live block.lines.items block.exit) block.lines.items (led leads block.exit))
 
 -- ---- the order of blocks: the entry first, then the others, from the last to the first
 
@@ -411,6 +412,10 @@ pub record Laying : Type 0 where
   pub blocks : List Block
   pub entry : ℕ
 
+-- where its blocks lead
+abbrev pub leads_of : Laying → ℕ → ℕ
+leads_of laying = lead laying.blocks laying.entry
+
 -- the label of the first of these blocks
 abbrev pub next_label : ℕ → List ℕ → Option ℕ
 next_label first [] = None
@@ -418,7 +423,7 @@ next_label first (b ∷ behind) = Some (first + b)
 
 abbrev pub found_code : Laying → ℕ → Option ℕ → Option Block → List CodeLine
 found_code laying b next None = []
-found_code laying b next (Some block) = block_code laying.at (laying.cut b) laying.live laying.distance next laying.first laying.frame b block
+found_code laying b next (Some block) = block_code laying.at (laying.cut b) laying.live (leads_of laying) laying.distance next laying.first laying.frame b block
 
 -- block b, behind which these stand
 abbrev pub laid_block : Laying → ℕ → List ℕ → List CodeLine
@@ -429,8 +434,12 @@ abbrev pub laid_code : Laying → List ℕ → List CodeLine
 laid_code laying [] = []
 laid_code laying (b ∷ behind) = laid_block laying b behind ++ laid_code laying behind
 
+-- without those that only lead on, for which no line is put
+abbrev pub kept_order : Laying → List ℕ
+kept_order laying = kept (leads_of laying) (laid_order laying.entry (length laying.blocks))
+
 abbrev pub blocks_code : Laying → List CodeLine
-blocks_code laying = laid_code laying (laid_order laying.entry (length laying.blocks))
+blocks_code laying = laid_code laying (kept_order laying)
 
 -- the test of the stack; the first block stands behind it
 abbrev pub enter_code : List CodeLine

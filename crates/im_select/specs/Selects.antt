@@ -14,28 +14,33 @@ use Rattle.im_block.specs.Wellformed.{accesses_of_blocks, ExitThere}
 use Rattle.im_alloc_placed.specs.Operands.{HasObject}
 use Rattle.im_alloc_placed.specs.Placed.{IsPlacedFunction}
 use Rattle.im_alloc_placed.specs.Apart.{CutsApart}
+use Rattle.im_select.specs.Leads.{lead}
 use Rattle.im_select_relation.specs.Selected.{IsEntry}
 use Rattle.im_select_relation.specs.Symbolic.{Lines, IsSelected}
 use Rattle.im_live.specs.Reads.{IsLive}
 use Rattle.im_live.specs.Entries.{entries}
-use Rattle.im_rtlib.specs.Routines.{getchar_label, putchar_label, stack_label}
+use Rattle.im_rtlib.specs.Routines.{service_label, stack_label}
+use Rattle.im_serve.specs.declared.service.Service.{Service}
 use Rattle.im_select.specs.Given.{Given}
 use Rattle.im_select.specs.declared.distance.Distance.{Distance}
 use Rattle.im_select.specs.declared.distance.Distance.TheVariants.{Near, Far}
 use Rattle.im_select.specs.Emitted.{entry_label, Laying, laid_order, function_code}
 use Rattle.im_select.specs.Places.{at_of, HasPlaces, CallsBelow}
 
+-- the label by which block b is gone to: that of the block where it leads
+abbrev pub block_label : Given → ℕ → ℕ
+block_label given b = given.first_block + lead given.function.blocks.items given.function.entry b
+
 -- places and labels are read so: where this function's objects and blocks are and what it calls, the rest may be anything
 pub record Agrees (w : Lines) (given : Given) : Type 0 where
   pub statics : (n : ℕ) → n < length given.statics → w.at (Named n) ≡ at_of given (Named n)
   pub objects : (n : ℕ) → HasObject given.function n → w.at (Named n) ≡ at_of given (Named n)
   pub slots : (n : ℕ) → n < given.function.slots → w.at (Slot n) ≡ at_of given (Slot n)
-  pub blocks : (b : ℕ) → b < length given.function.blocks.items → w.block b ≡ given.first_block + b
+  pub blocks : (b : ℕ) → b < length given.function.blocks.items → w.block b ≡ block_label given b
   pub entries : (i : ℕ) → i < given.functions → w.entry i ≡ entry_label i
   pub checkpoint : (m : ℕ) → IsEntry m → w.checkpoint m ≡ m
   pub full : w.full ≡ stack_label
-  pub puts : w.puts ≡ putchar_label
-  pub gets : w.gets ≡ getchar_label
+  pub serves : (service : Service) → w.serves service ≡ service_label service
 
 -- the functions that are called are there, the blocks that are gone to too
 pub record IsClosedBlock (given : Given) (block : Block) : Type 0 where
@@ -86,15 +91,15 @@ pub record HasLabel (lines : List CodeLine) (k l : ℕ) : Type 0 where
 -- the labels that a function's lines lead to: of the runtime, of functions, of its own blocks
 abbrev pub IsTarget : Given → ℕ → Type 0
 IsTarget given l =
-    IsEntry l ⊎ (l ≡ getchar_label) ⊎ (l ≡ putchar_label) ⊎ (l ≡ stack_label)
+    IsEntry l ⊎ ((service : Service) × (l ≡ service_label service)) ⊎ (l ≡ stack_label)
     ⊎ ((i : ℕ) × (i < given.functions) × (l ≡ entry_label i))
-    ⊎ ((b : ℕ) × (b < length given.function.blocks.items) × (l ≡ given.first_block + b))
+    ⊎ ((b : ℕ) × (b < length given.function.blocks.items) × (l ≡ block_label given b))
 
 -- a branch that leads to a block of a function of at most 1023 lines, so that it reaches it
 pub record IsNear (given : Given) (lines : List CodeLine) (line : CodeLine) (l : ℕ) : Type 0 where
   pub branches : format_of line.line.op ≡ Branch
   pub few : length lines ≤ 1023
-  pub block : (b : ℕ) × (b < length given.function.blocks.items) × (l ≡ given.first_block + b)
+  pub block : (b : ℕ) × (b < length given.function.blocks.items) × (l ≡ block_label given b)
 
 -- a branch leads to a block of the function; a jump reaches all of the code
 pub record LeadsTo (given : Given) (lines : List CodeLine) (line : CodeLine) (l : ℕ) : Type 0 where
@@ -144,7 +149,7 @@ pub record IsSelection (given : Given) (i : ℕ) (lines : List CodeLine) : Type 
   pub accesses : accesses_in lines ≡ accesses_of_blocks (laid_blocks given.function.entry given.function.blocks.items)
   pub causes : causes_in lines ≡ causes_of_blocks (laid_blocks given.function.entry given.function.blocks.items)
   pub entry : HasLabel lines 0 (entry_label i)
-  pub blocks : (b : ℕ) → b < length given.function.blocks.items → HasLabel lines (starts b) (given.first_block + b)
+  pub blocks : (b : ℕ) → b < length given.function.blocks.items → HasLabel lines (starts b) (block_label given b)
   pub only : (k l : ℕ) → HasLabel lines k l → ((k ≡ 0) × (l ≡ entry_label i)) ⊎ ((b : ℕ) × (b < length given.function.blocks.items) × (k ≡ starts b) × (l ≡ given.first_block + b))
   pub targets : (k l : ℕ) (line : CodeLine) → slice_get lines k ≡ Some line → line.target ≡ Some l → LeadsTo given lines line l
   pub words : ((b : ℕ) (block : Block) → slice_get given.function.blocks.items b ≡ Some block → CutsApart block.lines.items) → length lines ≤ placed_cost given.function

@@ -1,8 +1,9 @@
-ghost use Rattle.std.specs.Prelude.{◌≡◌, ◌<◌, ◌+◌, ◌++◌, length, slice_get, All, OnOk, IfOk, IfSome};
+ghost use Rattle.std.specs.Prelude.{◌≡◌, ◌<◌, ◌+◌, ◌++◌, length, slice_get, slice_index, All, OnOk, IfOk, IfSome};
 ghost use Rattle.im_rv.specs.Lines.{code_lines};
 ghost use Rattle.im_block.specs.Wellformed.{ExitThere};
 ghost use Rattle.im_alloc_placed.specs.Placed.{IsPlacedExit, IsPlacedBlock};
 ghost use Rattle.im_live.specs.Words.{entry_at, starts_have};
+ghost use Rattle.im_select.specs.Leads.{led, AreLeads};
 ghost use Rattle.im_select.specs.Emitted.{labelled, leave_code, result_code, onward_code, test_code, test_or, is_next, branch_code, ended_code, enter_code, prologue_code, taken_test, taking_code, behind_at, found_code};
 ghost use Rattle.im_select.specs.Given.{given};
 ghost use Rattle.im_select.specs.Places.{at_of, HasPlaces, IsTest};
@@ -10,6 +11,7 @@ ghost use Rattle.im_select.specs.Selects.{laying_of, IsClosedBlock};
 
 use crate::branching::{Test, branch_by, own_lines, taken_test};
 use crate::distance::Distance;
+use crate::leads::led;
 use crate::lines::push_lines;
 use crate::names::Names;
 use crate::push::{push, push_aimed, push_jump};
@@ -171,6 +173,7 @@ fn lines_by(
     alloc: Global,
     names: &Names,
     live: &[u32],
+    leads: &[u32],
     points: &[u32],
     distance: Distance,
     next: Option<u32>,
@@ -183,28 +186,37 @@ fn lines_by(
         (length names.now.statics.now) names.now.function.now block.now }
     requires closed { IsClosedBlock (given names.now) block.now }
     requires starts { length live.now ≡ length names.now.function.now.blocks.items }
+    requires leads { AreLeads names.now.function.now leads.now }
     requires enough { length points.now ≡ length block.now.lines.items + 1 }
     ensures { IfOk result (λ lines. code_lines lines.items
         ≡ labelled (names.now.first_block + number) (taking_code (at_of (given names.now))
         (entry_at points.now) (behind_at points.now) distance next names.now.first_block
         names.now.layout.now.frame
         (taken_test (starts_have live.now) block.now.lines.items block.now.exit)
-        block.now.lines.items block.now.exit)) }
+        block.now.lines.items (led (slice_index leads.now) block.now.exit))) }
 {
     let mut lines = Vec::new(alloc);
     let taken = taken_test(live, &block.lines, block.exit);
     push_lines(&mut lines, names, points, own_lines(&block.lines, taken))?;
-    push_exit(&mut lines, names, distance, next, taken, block.exit)?;
+    push_exit(
+        &mut lines,
+        names,
+        distance,
+        next,
+        taken,
+        led(leads, block.exit),
+    )?;
     label_first(&mut lines, names.first_block + number);
     Ok(lines)
 }
 
 /// The lines of a block, by its number; `next` is the label that stands behind it. A word of `live`
-/// has the registers that live at the start of a block.
+/// has the registers that live at the start of a block, a number of `leads` where a block leads.
 pub(crate) fn block_lines(
     alloc: Global,
     names: &Names,
     live: &[u32],
+    leads: &[u32],
     distance: Distance,
     next: Option<u32>,
     number: u32,
@@ -215,13 +227,16 @@ pub(crate) fn block_lines(
         names.now.function.now.blocks.items }
     requires closed { All (IsClosedBlock (given names.now)) names.now.function.now.blocks.items }
     requires enough { length live.now ≡ length names.now.function.now.blocks.items }
+    requires leads { AreLeads names.now.function.now leads.now }
     ensures { IfOk result (λ lines. code_lines lines.items
         ≡ found_code (laying_of (given names.now) (starts_have live.now) distance) number next
         (slice_get names.now.function.now.blocks.items number)) }
 {
     let block = &names.function.blocks[number as usize];
     let words = points(alloc, live, block)?;
-    let lines = lines_by(alloc, names, live, &words, distance, next, number, block)?;
+    let lines = lines_by(
+        alloc, names, live, leads, &words, distance, next, number, block,
+    )?;
     Ok(lines)
 }
 

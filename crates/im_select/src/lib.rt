@@ -6,6 +6,7 @@ mod branching;
 mod computing;
 mod distance;
 mod folding;
+mod leads;
 mod lines;
 mod memory;
 mod names;

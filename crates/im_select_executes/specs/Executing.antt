@@ -1,5 +1,5 @@
 -- What an image owes beside the law of selection, for the device's run to follow its placed code.
-use Rattle.std.specs.Prelude.{◌≡◌, ℕ, ◌+◌, ◌/◌, ◌≤◌, Bool, if◌then◌else◌, List, length, max, ℤ}
+use Rattle.std.specs.Prelude.{◌≡◌, ℕ, ◌+◌, ◌/◌, ◌≤◌, Bool, if◌then◌else◌, List, Option, None, Some, length, max, ℤ}
 use Rattle.im_num.specs.Variables.{Variable}
 use Rattle.im_rv.specs.Steps.{Cpu}
 use Rattle.im_image.specs.Contents.{ImageValue}
@@ -14,6 +14,7 @@ use Rattle.im_block.specs.declared.unit.Function.{Function}
 use Rattle.im_block.specs.declared.unit.Unit.{Unit as Code}
 use Rattle.im_block.specs.Meaning.{Setting, statics_of}
 use Rattle.im_block.specs.Shape.{Weights, sum_of}
+use Rattle.im_select_relation.specs.Jumps.{jump_of, jumps_in, are_few}
 use Rattle.im_select_relation.specs.Linking.{Linking}
 use Rattle.im_select_relation.specs.Linked.{IsLinked}
 use Rattle.im_select_relation.specs.Law.{is_nothing, ShowsStatics}
@@ -25,16 +26,24 @@ use Rattle.im_saved.specs.Liveness.{IsLiveness, EntersByCuts}
 abbrev pub first_cpu : ImageValue → List ℕ → Cpu
 first_cpu image input = (run_of image input 0).cpu
 
--- each line has half a word at least, unless it is nothing, since two may be one; a cut has one, and so have each block and each entry
+-- each line has half a word at least, unless it is nothing, since two may be one; a cut has one, and so have each block and each entry.
+-- Blocks that only jump have none where they are few
 abbrev pub line_halves : Line → ℕ
 line_halves (Cut cause) = 2
 line_halves line = if is_nothing line then 0 else 1
 
+abbrev pub words_by : Option ℕ → List Line → ℕ
+words_by None lines = max 1 ((sum_of line_halves lines + 1) / 2)
+words_by (Some c) lines = 0
+
 abbrev pub block_words : Block → ℕ
-block_words b = max 1 ((sum_of line_halves b.lines.items + 1) / 2)
+block_words b = words_by (jump_of b.lines.items b.exit) b.lines.items
+
+abbrev pub jump_words : List Block → ℕ
+jump_words blocks = if are_few blocks then 0 else jumps_in blocks
 
 abbrev pub function_words : Function → ℕ
-function_words f = 1 + sum_of block_words f.blocks.items
+function_words f = 1 + sum_of block_words f.blocks.items + jump_words f.blocks.items
 
 -- cuts: a line of its own, and those within a built-in routine
 abbrev pub cuts_in : Line → ℕ

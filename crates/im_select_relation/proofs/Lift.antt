@@ -17,7 +17,7 @@ use Rattle.im_block.specs.declared.code.Block.{Block}
 use Rattle.im_select_relation.specs.Linking.{Linking, frame_of}
 use Rattle.im_select_relation.specs.Selected.{Constant, Displaced, Based, Adds, Compared, Copied, Converted, Scaled, Selected, Jumps, Continues, Test, nonzero, comparing, Tested, Leaves, ExitAt, Joined, Folded, Stands, Checked, Prologue}
 use Rattle.im_select_relation.specs.Selected as linked
-use Rattle.im_select_relation.specs.Symbolic.{Lines, HasLine, ConstantIn, Small, Large, DisplacedIn, Near, Far, BasedIn, InFrame, InStatic, Behind, AddsIn, Short, Long, ComparedIn, Lesser, Larger, NotLarger, NotLesser, Same, Other, CopiedIn, Already, Moved, ConvertedIn, Whole, Masked, Narrowed, ScaledIn, Bytes, Shifted, Multiplied, SelectedIn, Numbers, Nulls, Copies, Converts, Negates, Complements, Nots, Computes, Compares, Moves, Measures, Addresses, AddressesPage, Fetches, StoresValue, Reloads, Spills, Cuts_, Calls, Gets, Puts_, JumpsIn, ContinuesIn, Falls, Leaps, TestedIn, Reached, Missed, Hopped, Skipped, LeavesIn, ExitIn, JoinedIn, Decides, FoldedIn, ComputesBy, StandsIn, CheckedIn, Direct, Around, PrologueIn, spot_of, distance, IsLaid, LinesLaw, FrameLaw}
+use Rattle.im_select_relation.specs.Symbolic.{Lines, HasLine, ConstantIn, Small, Large, DisplacedIn, Near, Far, BasedIn, InFrame, InStatic, Behind, AddsIn, Short, Long, ComparedIn, Lesser, Larger, NotLarger, NotLesser, Same, Other, CopiedIn, Already, Moved, ConvertedIn, Whole, Masked, Narrowed, ScaledIn, Bytes, Shifted, Multiplied, SelectedIn, Numbers, Nulls, Copies, Converts, Negates, Complements, Nots, Computes, Compares, Moves, Measures, Addresses, AddressesPage, Fetches, StoresValue, Reloads, Spills, Cuts_, Calls, Serves_, JumpsIn, ContinuesIn, Falls, Leaps, TestedIn, Reached, Missed, Hopped, Skipped, LeavesIn, ExitIn, JoinedIn, Decides, FoldedIn, ComputesBy, StandsIn, CheckedIn, Direct, Around, PrologueIn, spot_of, distance, IsLaid, LinesLaw, FrameLaw}
 
 lands : (pc target : ℕ) → pc + 4 ≤ 1048576 → target < 2 ^ 32 → sum_of pc (distance pc target) ≡ target
 lands pc target a b = omega arith
@@ -101,12 +101,9 @@ selected p i w place starts l k line next (Cuts_ cause m entry a) =
 selected p i w place starts l k line next (Calls n count a) =
     let h = aimed p i w place starts l k (jumping 1 0) (w.entry n) (p.entry n) None (l.entry n) a in
     linked.Calls n count (distance (spot_of (p.entry i) k) (p.entry n)) (lands (spot_of (p.entry i) k) (p.entry n) h.low (small_place p i w place starts l _ _ (l.entry n))) h
-selected p i w place starts l k line next (Gets a) =
-    let h = aimed p i w place starts l k (jumping 1 0) w.gets p.gets None l.gets a in
-    linked.Gets (distance (spot_of (p.entry i) k) p.gets) (lands (spot_of (p.entry i) k) p.gets h.low (small_place p i w place starts l _ _ l.gets)) h
-selected p i w place starts l k line next (Puts_ a) =
-    let h = aimed p i w place starts l k (jumping 1 0) w.puts p.puts None l.puts a in
-    linked.Puts_ (distance (spot_of (p.entry i) k) p.puts) (lands (spot_of (p.entry i) k) p.puts h.low (small_place p i w place starts l _ _ l.puts)) h
+selected p i w place starts l k line next (Serves_ service a) =
+    let h = aimed p i w place starts l k (jumping 1 0) (w.serves service) (p.serves service) None (l.serves service) a in
+    linked.Serves_ service (distance (spot_of (p.entry i) k) (p.serves service)) (lands (spot_of (p.entry i) k) (p.serves service) h.low (small_place p i w place starts l _ _ (l.serves service))) h
 
 jumps : (p : Linking) (i : ℕ) (w : Lines) (place starts : ℕ → ℕ) → IsLaid p i w place starts → (k label target : ℕ) → place label ≡ target → JumpsIn w k label → Jumps p (spot_of (p.entry i) k) target
 jumps p i w place starts l k label target e a =

@@ -1,14 +1,12 @@
 -- Each line that passes on to the next, on the machine.
-use Rattle.std.proofs.Common.{◌≡◌, ℕ, zero, suc, ◌+◌, ◌*◌, ◌%◌, ◌^◌, ◌<◌, ◌≤◌, ◌⊎◌, inl, inr, ℤ, pos, negsuc, ◌≤ℤ◌, ◌<ℤ◌, Bool, true, false, cond, List, [], ◌∷◌, ◌++◌, length, Some, sym, ap, ◌∙◌, subst, refl, arith}
-use Rattle.std.specs.Prelude.{◌==◌, ◌&&◌, neg_ℤ, ◌-ℤ◌, nat_lt, nat_abs, not, slice_get, replicate, bit_xor, None}
+use Rattle.std.proofs.Common.{◌≡◌, ℕ, suc, ◌+◌, ◌*◌, ◌%◌, ◌^◌, ◌<◌, ◌≤◌, ◌⊎◌, inl, inr, ℤ, pos, negsuc, Bool, true, false, cond, List, [], ◌∷◌, Option, Some, sym, ap, ◌∙◌, subst, refl, arith}
+use Rattle.std.specs.Prelude.{◌==◌, ◌&&◌, neg_ℤ, ◌-ℤ◌, nat_lt, not, slice_get, replicate, bit_xor, None}
 use Rattle.std.proofs.lemmas.List.{append-nil}
-use Rattle.std.proofs.lemmas.Int.{ints}
 use Rattle.im_num.specs.declared.kind.Kind.{Kind}
 use Rattle.im_num.specs.declared.kind.Kind.TheVariants.{I8, U8, I16, U16, I32, U32, Ptr}
 use Rattle.im_num.specs.Kinds.{kind_size, wrap, word}
 use Rattle.im_num.specs.declared.values.Cause.{Cause}
-use Rattle.im_num.proofs.Wrapping.{wrap-of_kind}
-use Rattle.im_mem.specs.Memory.{Mem, is_place, bytes_from}
+use Rattle.im_mem.specs.Memory.{Mem, is_place}
 use Rattle.im_rv.specs.declared.instr.Op.{Op}
 use Rattle.im_rv.specs.declared.instr.Op.TheVariants.{Addi, Sltiu, Xori, Srl, Sra, Srli, Srai, Sub, Div, Divu, Rem, Remu}
 use Rattle.im_rv.specs.declared.effect.Effect.TheVariants.{Puts}
@@ -19,10 +17,10 @@ use Rattle.im_rv_reach.specs.Shown.{shown, left}
 use Rattle.im_rv_reach.specs.Plain.{returns_by}
 use Rattle.im_rv_reach.specs.Reach.{plus}
 use Rattle.im_rv_reach.specs.Instructions.{Holds, with_immediate, on_registers, upper, jumping}
-use Rattle.im_rv_reach.specs.Routines.{Done, Called, put, put_answer, got, got_answer}
+use Rattle.im_rv_reach.specs.Routines.{Done, Called}
 use Rattle.im_rv_reach.proofs.Reach.{join, next_pc, no_back, leaps}
 use Rattle.im_select_operators.specs.Tables.{IsPromoted, by_sign, operation}
-use Rattle.im_select_operators.proofs.Words.{word_small, word_of, word_only, loaded_wrap}
+use Rattle.im_select_operators.proofs.Words.{word_small}
 use Rattle.im_select_operators.proofs.Arithmetic.{negated_word}
 use Rattle.im_select_operators.proofs.Division.{complemented_word}
 use Rattle.im_select_operators.proofs.Comparisons.{word_less, outcome, compares_word}
@@ -35,15 +33,15 @@ use Rattle.im_store.specs.Outcomes.{Undef, More, End}
 use Rattle.im_store.specs.Pointers.{compare_places}
 use Rattle.im_store.specs.Numbers.{apply_one, compares}
 use Rattle.im_store.specs.Objects.{Slot, Link, Value, Number, Null, Pointer, Shape, Store, same_kind}
-use Rattle.im_serve.specs.declared.service.Service.TheVariants.{Getchar, Putchar}
-use Rattle.im_serve.specs.Services.{byte_in, byte_put}
+use Rattle.im_serve.specs.declared.service.Service.{Service}
+use Rattle.im_serve.specs.Services.{Reply, row, IsNullary, IsUnary, serve}
 use Rattle.im_block.specs.declared.code.Place.TheVariants.{Static}
 use Rattle.im_block.specs.declared.code.Line.{Line}
 use Rattle.im_block.specs.declared.code.Line.TheVariants.{Cut, Serve}
 use Rattle.im_block.specs.declared.unit.Unit.{Unit as Code}
-use Rattle.im_block.specs.Meaning.{Setting, State, Next, Goes, Stops, Serves, Cuts, Active, object_of, with_register, with_rest, kept_by, does, place_of, computed, computed_one, moved, distance_of, negation, condition, compared, converted, pointer_of, slot_of, slot_shape, read_place, write_place, read_slot, write_slot, site_of, slot_site, number_of, Location, as_number, as_truth, replies, computes}
+use Rattle.im_block.specs.Meaning.{Setting, State, Next, Goes, Stops, Serves, Cuts, Active, object_of, with_register, with_rest, kept_by, does, place_of, computed, computed_one, moved, distance_of, negation, condition, compared, converted, pointer_of, slot_of, slot_shape, read_place, write_place, read_slot, write_slot, site_of, slot_site, number_of, argument, Location, as_number, as_truth, computes}
 use Rattle.im_select_relation.specs.Linking.{Linking, pointer_at, frame_of, runtime, Means}
-use Rattle.im_select_relation.specs.Selected.{IsHome, IsEntry, ones, Immediate, AddsBy, SubtractsBy, AndsBy, OrsBy, XorsBy, ShiftsLeftBy, ShiftsRightBy, Already, Moved, Selected, Numbers, Nulls, Copies, Converts, Negates, Complements, Nots, Computes, Compares, Moves, Measures, Addresses, AddressesPage, Fetches, StoresValue, Reloads, Spills, Cuts_, Calls, Gets, Puts_, Stands, Displaced}
+use Rattle.im_select_relation.specs.Selected.{IsHome, IsEntry, ones, Immediate, AddsBy, SubtractsBy, AndsBy, OrsBy, XorsBy, ShiftsLeftBy, ShiftsRightBy, Already, Moved, Selected, Numbers, Nulls, Copies, Converts, Negates, Complements, Nots, Computes, Compares, Moves, Measures, Addresses, AddressesPage, Fetches, StoresValue, Reloads, Spills, Cuts_, Calls, Serves_, argument_register, Stands, Displaced}
 use Rattle.im_block.specs.Shape.{narrowing, line_weight}
 use Rattle.im_select_relation.specs.Law.{Touches, Nothing, Serving, Cutting, steps}
 use Rattle.im_select_relation.proofs.Registers.{RegsMean, means_at, only_result}
@@ -167,61 +165,22 @@ served_after p u g l s c m r rest target imm fuel output input output' input' v 
           (only_result p (kept_by (slice_get u.functions.items s.frame.function) s.frame.registers) (pointer_at s.frame.active.depth) 10 v d.y (lost_by p u g l s.frame.function r.f s.frame.registers r.is) d.zero_reg (d.stack ∙ other_reg c.x 1 a 2 (omega arith) ∙ r.regs.stack) mean);
     }
 
-minus_one : word (negsuc 0) ≡ 4294967295
-minus_one = word_only (negsuc 0) (negsuc 0) 4294967295 (omega arith) (omega (arith, ints))
+-- the argument of a service: its word is in x10
+argument_means : (p : Linking) (parameter : Option Kind) (registers : ℕ → Value) (w : ℕ) (z : ℤ) → argument (argument_register parameter) registers ≡ Fine z → Means p (registers 10) w → (IsNullary parameter → z ≡ pos 0) × (IsUnary parameter → w ≡ word z)
+argument_means p None registers w z e m = ((λ t. sym (fine_is (pos 0) z e)), (λ t. absurd t))
+argument_means p (Some kind) registers w z e m = ((λ t. absurd t), (λ t. number_word p (registers 10) w z e m))
 
-byte_of : (z : ℤ) → word z % 256 ≡ nat_abs (wrap U8 z)
-byte_of z = loaded_wrap U8 z ∙ small (wrap U8 z) (wrap-of_kind U8 z).low (wrap-of_kind U8 z).high
-  where
-    small : (q : ℤ) → pos 0 ≤ℤ q → q <ℤ pos 256 → word q ≡ nat_abs q
-    small (pos n) low high = word_of n (omega (arith, ints))
-    small (negsuc n) low high = absurd (omega (arith, ints))
-
-put_line : (p : Linking) (u : Code) (g : Setting) → Premises p u g → (s : State) (c : Cpu) (m : Mem) (r : Rel p u g s c m) (rest : List Line) (imm : ℕ) → sum_of c.pc imm ≡ p.puts → Holds p.image c.pc (jumping 1 imm) → Stands p r.f.blocks.items s.frame.function (frame_of g s.frame.function) (c.pc + 4) rest s.frame.spot.exit → After p u g s.fuel (p.longest + 1) c m (does u g (Serve 10 Putchar (Some 10)) rest s)
-put_line p u g l s c m r rest imm lands h code =
+serve_line : (p : Linking) (u : Code) (g : Setting) → Premises p u g → (s : State) (c : Cpu) (m : Mem) (r : Rel p u g s c m) (service : Service) (rest : List Line) (imm : ℕ) → sum_of c.pc imm ≡ p.serves service → Holds p.image c.pc (jumping 1 imm) → Stands p r.f.blocks.items s.frame.function (frame_of g s.frame.function) (c.pc + 4) rest s.frame.spot.exit → After p u g s.fuel (p.longest + 1) c m (does u g (Serve 10 service (argument_register (row service).parameter)) rest s)
+serve_line p u g l s c m r service rest imm lands h code =
     takes_after p u g s.fuel (p.longest + 1) c m s.output _ r.output (λ less.
-    checked_after p u g (suc less) (p.longest + 1) c m (number_of (s.frame.registers 10)) _ (λ z e.
+    checked_after p u g (suc less) (p.longest + 1) c m (argument (argument_register (row service).parameter) s.frame.registers) _ (λ z e.
     let x : ℕ → ℕ = with_reg c.x 1 (sum_of c.pc 4) in
-    let x10 : x 10 ≡ word z = other_reg c.x 1 (sum_of c.pc 4) 10 (omega arith) ∙ number_word p (s.frame.registers 10) (c.x 10) z e (r.regs.homes 10 (omega arith)) in
-    let q = l.at.puts m x (called p u g s c m r 1 imm (omega arith) h) (let b = word_small z in omega arith) in
-    let d = q.0 in
-    let byte : x 10 % 256 ≡ nat_abs (wrap U8 z) = ap (λ z. z % 256) x10 ∙ byte_of z in
-    by less z d q.1 byte (nat_lt (length s.output) g.capacity) refl))
-  where
-    x : ℕ → ℕ
-    x = with_reg c.x 1 (sum_of c.pc 4)
-
-    by : (less : ℕ) (z : ℤ) (d : Done (runtime p g) m p.puts (with_reg c.x 1 (sum_of c.pc 4)) (with_reg c.x 1 (sum_of c.pc 4) 1) (put g.capacity (shown m) (with_reg c.x 1 (sum_of c.pc 4) 10)) (left m)) → d.y 10 ≡ put_answer g.capacity (shown m) (with_reg c.x 1 (sum_of c.pc 4) 10) → with_reg c.x 1 (sum_of c.pc 4) 10 % 256 ≡ nat_abs (wrap U8 z) → (b : Bool) → nat_lt (length s.output) g.capacity ≡ b → After p u g (suc less) (p.longest + 1) c m (replies u g 10 (byte_put b (nat_abs (wrap U8 z)) s.input s.output) rest less s)
-    by less z d a byte true t =
-        let room : nat_lt (length (shown m)) g.capacity ≡ true = ap (λ (q : List ℕ). nat_lt (length q) g.capacity) r.output ∙ t in
-        let eo : put g.capacity (shown m) (x 10) ≡ s.output ++ nat_abs (wrap U8 z) ∷ [] = ap (λ b. cond b (shown m ++ x 10 % 256 ∷ []) (shown m)) room ∙ ap (λ q. q ++ x 10 % 256 ∷ []) r.output ∙ ap (λ q. s.output ++ q ∷ []) byte in
-        let ea : d.y 10 ≡ nat_abs (wrap U8 z) = a ∙ ap (λ b. cond b (x 10 % 256) 0xFFFFFFFF) room ∙ byte in
-        let w : nat_abs (wrap U8 z) < 2 ^ 32 = (let q : x 10 % 256 < 256 = omega arith in omega arith) in
-        served_after p u g l s c m r rest p.puts imm less _ _ (s.output ++ nat_abs (wrap U8 z) ∷ []) s.input (Number (pos (nat_abs (wrap U8 z)))) lands h code d eo r.input (ea ∙ sym (word_of (nat_abs (wrap U8 z)) w))
-    by less z d a byte false t =
-        let room : nat_lt (length (shown m)) g.capacity ≡ false = ap (λ (q : List ℕ). nat_lt (length q) g.capacity) r.output ∙ t in
-        let eo : put g.capacity (shown m) (x 10) ≡ s.output = ap (λ b. cond b (shown m ++ x 10 % 256 ∷ []) (shown m)) room ∙ r.output in
-        let ea : d.y 10 ≡ 0xFFFFFFFF = a ∙ ap (λ b. cond b (x 10 % 256) 0xFFFFFFFF) room in
-        served_after p u g l s c m r rest p.puts imm less _ _ s.output s.input (Number (negsuc 0)) lands h code d eo r.input (ea ∙ sym minus_one)
-
--- what is left of the input is of bytes
-first_byte : (m : Mem) (a n byte : ℕ) (more : List ℕ) → ((i : ℕ) → m i < 256) → bytes_from m a n ≡ byte ∷ more → byte < 256
-first_byte m a zero byte more h e = absurd cc
-first_byte m a (suc n) byte more h e = let f : m a ≡ byte = cc in let k = h a in omega arith
-
-get_line : (p : Linking) (u : Code) (g : Setting) → Premises p u g → (s : State) (c : Cpu) (m : Mem) (r : Rel p u g s c m) (rest : List Line) (imm : ℕ) → sum_of c.pc imm ≡ p.gets → Holds p.image c.pc (jumping 1 imm) → Stands p r.f.blocks.items s.frame.function (frame_of g s.frame.function) (c.pc + 4) rest s.frame.spot.exit → After p u g s.fuel (p.longest + 1) c m (does u g (Serve 10 Getchar None) rest s)
-get_line p u g l s c m r rest imm lands h code =
-    takes_after p u g s.fuel (p.longest + 1) c m s.output _ r.output (λ less.
-    let x : ℕ → ℕ = with_reg c.x 1 (sum_of c.pc 4) in
-    let q = l.at.gets m x (called p u g s c m r 1 imm (omega arith) h) in
-    by less q.0 q.1 s.input r.input)
-  where
-    by : (less : ℕ) (d : Done (runtime p g) m p.gets (with_reg c.x 1 (sum_of c.pc 4)) (with_reg c.x 1 (sum_of c.pc 4) 1) (shown m) (got (left m))) → d.y 10 ≡ got_answer (left m) → (input : List ℕ) → left m ≡ input → After p u g (suc less) (p.longest + 1) c m (replies u g 10 (byte_in input s.output) rest less s)
-    by less d a [] e =
-        served_after p u g l s c m r rest p.gets imm less _ _ s.output [] (Number (negsuc 0)) lands h code d r.output (ap got e) (a ∙ ap got_answer e ∙ sym minus_one)
-    by less d a (byte ∷ input) e =
-        let small = first_byte m _ _ byte input r.words.bytes e in
-        served_after p u g l s c m r rest p.gets imm less _ _ s.output input (Number (pos byte)) lands h code d r.output (ap got e) (a ∙ ap got_answer e ∙ sym (word_of byte (omega arith)))
+    let x10 : x 10 ≡ c.x 10 = other_reg c.x 1 (sum_of c.pc 4) 10 (omega arith) in
+    let given = argument_means p (row service).parameter s.frame.registers (c.x 10) z e (r.regs.homes 10 (omega arith)) in
+    let q = l.at.serves service m x z (called p u g s c m r 1 imm (omega arith) h) given.0 (λ t. x10 ∙ given.1 t) in
+    let reply : Reply = serve service g.capacity z s.input s.output in
+    let same : serve service g.capacity z (left m) (shown m) ≡ reply = ap (λ i. serve service g.capacity z i (shown m)) r.input ∙ ap (serve service g.capacity z s.input) r.output in
+    served_after p u g l s c m r rest (p.serves service) imm less _ _ reply.output reply.input (Number reply.value) lands h code q.0 (ap (λ (o : Reply). o.output) same) (ap (λ (o : Reply). o.input) same) (q.1 ∙ ap (λ (o : Reply). word o.value) same)))
 
 cut_line : (p : Linking) (u : Code) (g : Setting) → Premises p u g → (s : State) (c : Cpu) (m : Mem) (r : Rel p u g s c m) (cause : Cause) (rest : List Line) (e imm : ℕ) → IsEntry e → sum_of c.pc imm ≡ p.checkpoint e → Holds p.image c.pc (jumping 3 imm) → Stands p r.f.blocks.items s.frame.function (frame_of g s.frame.function) (c.pc + 4) rest s.frame.spot.exit → After p u g s.fuel 39 c m (does u g (Cut cause) rest s)
 cut_line p u g l s c m r cause rest en imm entry lands h code =
@@ -412,5 +371,4 @@ line_after p u g l s c m r line rest next (Spills slot from access base imm mid 
     record { lands = subst (λ (z : Location). Lands p z b.w) (sym q.0) b.lands; taken = s.frame.registers from; value = means_word p (s.frame.registers from) (c.x from) (r.regs.homes from home.0); write = q.1 })
 line_after p u g l s c m r line rest next (Cuts_ cause e imm entry lands h) code = cut_line p u g l s c m r cause rest e imm entry lands h code
 line_after p u g l s c m r line rest next (Calls i count imm lands h) code = after_more p u g s.fuel 10 12 c m _ (omega arith) (call_after p u g l s c m r i count imm rest lands h code)
-line_after p u g l s c m r line rest next (Gets imm lands h) code = after_more p u g s.fuel (p.longest + 1) (2 + p.longest) c m _ (omega arith) (get_line p u g l s c m r rest imm lands h code)
-line_after p u g l s c m r line rest next (Puts_ imm lands h) code = after_more p u g s.fuel (p.longest + 1) (2 + p.longest) c m _ (omega arith) (put_line p u g l s c m r rest imm lands h code)
+line_after p u g l s c m r line rest next (Serves_ service imm lands h) code = after_more p u g s.fuel (p.longest + 1) (2 + p.longest) c m _ (omega arith) (serve_line p u g l s c m r service rest imm lands h code)

@@ -3,3 +3,4 @@ pub mod Selected
 pub mod Linked
 pub mod Law
 pub mod Symbolic
+pub mod Jumps

@@ -1,12 +1,16 @@
 -- Where placed code lies as instructions, by static facts alone: functions, statics, routines, the lines that begin and end.
-use Rattle.std.specs.Prelude.{◌≡◌, ◌<◌, ◌≤◌, ℕ, ◌+◌, ◌%◌, ◌^◌, [], Some, slice_get}
+use Rattle.std.specs.Prelude.{◌≡◌, ◌<◌, ◌≤◌, ℕ, ◌+◌, ◌%◌, ◌^◌, ℤ, pos, [], Some, slice_get}
 use Rattle.im_num.specs.declared.kind.Kind.{Kind}
+use Rattle.im_num.specs.Kinds.{word}
 use Rattle.im_mem.specs.Map.{statics_start, statics_capacity, stack_capacity, status_at, reason_at}
+use Rattle.im_mem.specs.Memory.{Mem}
 use Rattle.im_rv.specs.declared.instr.Op.TheVariants.{Sw, Addi, Ebreak}
 use Rattle.im_rv.specs.Steps.{sum_of}
 use Rattle.im_rv_reach.specs.Shown.{shown, left}
 use Rattle.im_rv_reach.specs.Instructions.{Holds, with_immediate, storing, jumping}
-use Rattle.im_rv_reach.specs.Routines.{Words, PutsAt, GetsAt, SavesAt}
+use Rattle.im_rv_reach.specs.Routines.{Runtime, Words, Called, Done, SavesAt}
+use Rattle.im_serve.specs.declared.service.Service.{Service}
+use Rattle.im_serve.specs.Services.{row, IsNullary, IsUnary, serve}
 use Rattle.im_store.specs.Objects.{Name, Named, Link, Shape}
 use Rattle.im_block.specs.declared.code.Block.{Block}
 use Rattle.im_block.specs.declared.unit.Registers.TheVariants.{Machine}
@@ -28,6 +32,13 @@ pub record FunctionAt (p : Linking) (g : Setting) (i : ℕ) (f : Function) : Typ
   pub prologue : Prologue p (p.entry i) (frame_of g i) (p.place i f.entry)
   pub blocks : (b : ℕ) (block : Block) → slice_get f.blocks.items b ≡ Some block → Stands p f.blocks.items i (frame_of g i) (p.place i b) block.lines.items block.exit
 
+-- the routine of a service stands at pc: the word of the argument, where there is a parameter, and of the result is in x10, the
+-- return address in x1; it does what the table says
+abbrev pub ServesAt : Runtime → Service → ℕ → Type 0
+ServesAt r service pc =
+    (m : Mem) (x : ℕ → ℕ) (z : ℤ) → Called r m x 1 → (IsNullary (row service).parameter → z ≡ pos 0) → (IsUnary (row service).parameter → x 10 ≡ word z) →
+    (d : Done r m pc x (x 1) (serve service r.capacity z (left m) (shown m)).output (serve service r.capacity z (left m) (shown m)).input) × (d.y 10 ≡ word (serve service r.capacity z (left m) (shown m)).value)
+
 pub record IsLinked (p : Linking) (u : Code) (g : Setting) : Type 0 where
   pub functions : (i : ℕ) (f : Function) → slice_get u.functions.items i ≡ Some f → FunctionAt p g i f
   pub first : p.at Link ≡ 0
@@ -39,8 +50,7 @@ pub record IsLinked (p : Linking) (u : Code) (g : Setting) : Type 0 where
   pub words : Words (limit_of g) g.capacity p.image
   pub silent : shown p.image ≡ []
   pub input : left p.image ≡ g.input
-  pub puts : PutsAt (runtime p g) p.puts
-  pub gets : GetsAt (runtime p g) p.gets
+  pub serves : (service : Service) → ServesAt (runtime p g) service (p.serves service)
   pub saves : (m : ℕ) → IsEntry m → SavesAt (runtime p g) (p.checkpoint m)
   pub call : ℕ
   pub lands : sum_of p.begin call ≡ p.entry u.main

@@ -6,12 +6,13 @@ use Rattle.im_mem.specs.Map.{stack_end, stack_capacity}
 use Rattle.im_mem.specs.Memory.{Mem}
 use Rattle.im_rv.specs.Steps.{sum_of}
 use Rattle.im_rv_reach.specs.Routines.{Runtime}
+use Rattle.im_serve.specs.declared.service.Service.{Service}
 use Rattle.im_store.specs.Objects.{Name, Object, static, Value, Number, Null, Pointer, Unset, Shape}
 use Rattle.im_block.specs.Meaning.{Setting}
 
 -- an object's place by its name, in its frame or, for a static, in memory, and its bytes; functions and their blocks; the
--- lines that begin and end; the routines, a checkpoint's by the number of its last register; the most steps of a
--- routine, and the most flips of INDEX; the memory that is loaded
+-- lines that begin and end; the routines, a service's by the service and a checkpoint's by the number of its last register; the
+-- most steps of a routine, and the most flips of INDEX; the memory that is loaded
 pub record Linking : Type 0 where
   pub at : Name → ℕ
   pub size : Name → ℕ
@@ -19,8 +20,7 @@ pub record Linking : Type 0 where
   pub place : ℕ → ℕ → ℕ
   pub begin : ℕ
   pub full : ℕ
-  pub puts : ℕ
-  pub gets : ℕ
+  pub serves : Service → ℕ
   pub checkpoint : ℕ → ℕ
   pub longest : ℕ
   pub flips : ℕ

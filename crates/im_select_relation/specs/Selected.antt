@@ -16,7 +16,8 @@ use Rattle.im_store.specs.declared.operators.UnaryOp.TheVariants.{Negate, Comple
 use Rattle.im_store.specs.declared.operators.Comparison.{Comparison}
 use Rattle.im_store.specs.declared.operators.Comparison.TheVariants.{Less, Greater, LessOrEqual, GreaterOrEqual, Equal, NotEqual}
 use Rattle.im_store.specs.Objects.{Named, Slot}
-use Rattle.im_serve.specs.declared.service.Service.TheVariants.{Getchar, Putchar}
+use Rattle.im_serve.specs.declared.service.Service.{Service}
+use Rattle.im_serve.specs.Services.{row}
 use Rattle.im_block.specs.declared.code.Place.{Place}
 use Rattle.im_block.specs.declared.code.Place.TheVariants.{Static, Local, Through}
 use Rattle.im_block.specs.declared.code.Line.{Line}
@@ -90,6 +91,11 @@ pub data Scaled (p : Linking) (pc size by : ℕ) : ℕ → ℕ → Type 0 where 
 abbrev pub IsEntry : ℕ → Type 0
 IsEntry m = (3 < m) × (m < 32)
 
+-- the register of a service's argument, where it has a parameter
+abbrev pub argument_register : Option Kind → Option ℕ
+argument_register None = None
+argument_register (Some kind) = Some 10
+
 -- what stands from pc to next for a line
 pub data Selected (p : Linking) (pc : ℕ) : Line → ℕ → Type 0 where
   Numbers : (to : ℕ) (z : ℤ) (next : ℕ) → IsHome to → Constant p pc to (word z) next → Selected p pc (Put to z) next
@@ -111,8 +117,7 @@ pub data Selected (p : Linking) (pc : ℕ) : Line → ℕ → Type 0 where
   Spills : (slot from access base imm next : ℕ) → IsHome from → Displaced p pc 2 (p.at (Slot slot)) base imm next → Holds p.image next (storing Sw base from imm) → Selected p pc (Spill slot from access) (next + 4)
   Cuts_ : (cause : Cause) (m imm : ℕ) → IsEntry m → sum_of pc imm ≡ p.checkpoint m → Holds p.image pc (jumping 3 imm) → Selected p pc (Cut cause) (pc + 4)
   Calls : (i count imm : ℕ) → sum_of pc imm ≡ p.entry i → Holds p.image pc (jumping 1 imm) → Selected p pc (Call 10 i 10 count) (pc + 4)
-  Gets : (imm : ℕ) → sum_of pc imm ≡ p.gets → Holds p.image pc (jumping 1 imm) → Selected p pc (Serve 10 Getchar None) (pc + 4)
-  Puts_ : (imm : ℕ) → sum_of pc imm ≡ p.puts → Holds p.image pc (jumping 1 imm) → Selected p pc (Serve 10 Putchar (Some 10)) (pc + 4)
+  Serves_ : (service : Service) (imm : ℕ) → sum_of pc imm ≡ p.serves service → Holds p.image pc (jumping 1 imm) → Selected p pc (Serve 10 service (argument_register (row service).parameter)) (pc + 4)
 
 -- a jump from pc
 pub record Jumps (p : Linking) (pc target : ℕ) : Type 0 where

@@ -16,7 +16,8 @@ use Rattle.im_store.specs.declared.operators.UnaryOp.TheVariants.{Negate, Comple
 use Rattle.im_store.specs.declared.operators.Comparison.{Comparison}
 use Rattle.im_store.specs.declared.operators.Comparison.TheVariants.{Less, Greater, LessOrEqual, GreaterOrEqual, Equal, NotEqual}
 use Rattle.im_store.specs.Objects.{Name, Named, Slot, Shape}
-use Rattle.im_serve.specs.declared.service.Service.TheVariants.{Getchar, Putchar}
+use Rattle.im_serve.specs.declared.service.Service.{Service}
+use Rattle.im_serve.specs.Services.{row}
 use Rattle.im_block.specs.declared.code.Place.{Place}
 use Rattle.im_block.specs.declared.code.Place.TheVariants.{Static, Local, Through}
 use Rattle.im_block.specs.declared.code.Line.{Line}
@@ -31,10 +32,10 @@ use Rattle.im_frame.specs.declared.layout.Layout.{Layout}
 use Rattle.im_frame.specs.Layout.{place_of as place_in, IsLayout}
 use Rattle.im_select_relation.specs.Linking.{Linking, LaidOut, frame_of}
 use Rattle.im_select_relation.specs.Linked.{FunctionAt}
-use Rattle.im_select_relation.specs.Selected.{IsHome, IsEntry, ones, unused_bits, Test, nonzero, comparing, IsDead, Immediate, IsSpent}
+use Rattle.im_select_relation.specs.Selected.{IsHome, IsEntry, argument_register, ones, unused_bits, Test, nonzero, comparing, IsDead, Immediate, IsSpent}
 
 -- the lines of a function; the places of objects in frames and of statics; the labels of the function's blocks, of the
--- functions' entries, of the lines for an exhausted stack, of a checkpoint by its last register, of putchar and getchar
+-- functions' entries, of the lines for an exhausted stack, of a checkpoint by its last register, of each service
 pub record Lines : Type 0 where
   pub lines : List CodeLine
   pub at : Name → ℕ
@@ -42,8 +43,7 @@ pub record Lines : Type 0 where
   pub entry : ℕ → ℕ
   pub full : ℕ
   pub checkpoint : ℕ → ℕ
-  pub puts : ℕ
-  pub gets : ℕ
+  pub serves : Service → ℕ
 
 -- line k has this instruction, and names this much; any label may stand at it
 pub record HasLine (w : Lines) (k : ℕ) (l : Instruction) (target access : Option ℕ) (cause : Option Cause) : Type 0 where
@@ -129,8 +129,7 @@ pub data SelectedIn (w : Lines) (k : ℕ) : Line → ℕ → Type 0 where
   Spills : (slot from access base imm next : ℕ) → IsHome from → DisplacedIn w k 2 (w.at (Slot slot)) base imm next → Accessing w next (storing Sw base from imm) access → SelectedIn w k (Spill slot from access) (suc next)
   Cuts_ : (cause : Cause) (m : ℕ) → IsEntry m → HasLine w k (jumping 3 0) (Some (w.checkpoint m)) None (Some cause) → SelectedIn w k (Cut cause) (suc k)
   Calls : (i count : ℕ) → Aimed w k (jumping 1 0) (w.entry i) → SelectedIn w k (Call 10 i 10 count) (suc k)
-  Gets : Aimed w k (jumping 1 0) w.gets → SelectedIn w k (Serve 10 Getchar None) (suc k)
-  Puts_ : Aimed w k (jumping 1 0) w.puts → SelectedIn w k (Serve 10 Putchar (Some 10)) (suc k)
+  Serves_ : (service : Service) → Aimed w k (jumping 1 0) (w.serves service) → SelectedIn w k (Serve 10 service (argument_register (row service).parameter)) (suc k)
 
 -- a jump from k to a label
 abbrev pub JumpsIn : Lines → ℕ → ℕ → Type 0
@@ -236,8 +235,7 @@ pub record IsLaid (p : Linking) (i : ℕ) (w : Lines) (place : ℕ → ℕ) (sta
   pub entry : (n : ℕ) → place (w.entry n) ≡ p.entry n
   pub full : place w.full ≡ p.full
   pub checkpoint : (m : ℕ) → place (w.checkpoint m) ≡ p.checkpoint m
-  pub puts : place w.puts ≡ p.puts
-  pub gets : place w.gets ≡ p.gets
+  pub serves : (service : Service) → place (w.serves service) ≡ p.serves service
 
 -- so what is selected and laid is where the law of selection wants it
 abbrev pub LinesLaw : Type 0

@@ -49,6 +49,65 @@ fn seven(alloc: Global) -> Result<Unit, Fault>
     })
 }
 
+// `int main(void) { int n = 0; if (n) n = 7; return n; }`, placed, with two blocks that only lead
+// on to the last.
+fn chain(alloc: Global) -> Result<Unit, Fault>
+    ensures well_formed { IfOk result IsWellFormed }
+    ensures placed { IfOk result IsPlacedCode }
+    ensures named { IfOk result NamesAccesses }
+    ensures frames { IfOk result
+        (λ u. All (λ (f : Placed). bytes_of f ≤ f.need) u.functions.items) }
+    ensures one { IfOk result (λ u. length u.functions.items ≡ 1) }
+    ensures none { IfOk result (λ u. u.statics.items ≡ []) }
+{
+    let zero = vec![in alloc; Line::Put { to: 10, number: 0 }]?;
+    let seven = vec![in alloc; Line::Put { to: 10, number: 7 }]?;
+    let blocks = vec![in alloc;
+        Block {
+            lines: Vec::new(alloc),
+            exit: Exit::Return(Some(10)),
+        },
+        Block {
+            lines: Vec::new(alloc),
+            exit: Exit::Jump(0),
+        },
+        Block {
+            lines: Vec::new(alloc),
+            exit: Exit::Jump(1),
+        },
+        Block {
+            lines: seven,
+            exit: Exit::Jump(2),
+        },
+        Block {
+            lines: zero,
+            exit: Exit::Branch {
+                on: 10,
+                holds: 3,
+                fails: 2,
+            },
+        },
+    ]?;
+    let function = Function {
+        nodes: 4,
+        need: 100,
+        registers: Registers::Machine,
+        register_count: 32,
+        parameters: 0,
+        first_parameter: 10,
+        first_object: 0,
+        objects: Vec::new(alloc),
+        slots: 0,
+        blocks,
+        entry: 4,
+    };
+    Ok(Unit {
+        statics: Vec::new(alloc),
+        functions: vec![in alloc; function]?,
+        main: 0,
+    })
+}
+
 // The number of the words, those behind the runtime, and the entry.
 fn tell_code(code: &Code, case: &mut Case) {
     case.show(code.words.len());
@@ -59,9 +118,15 @@ fn tell_code(code: &Code, case: &mut Case) {
     case.word(code.entry);
 }
 
-fn linked(alloc: Global) -> Result<Code, Fault> {
+fn linked(alloc: Global, unit: Unit) -> Result<Code, Fault>
+    requires well_formed { IsWellFormed unit }
+    requires placed { IsPlacedCode unit }
+    requires named { NamesAccesses unit }
+    requires frames { All (λ (f : Placed). bytes_of f ≤ f.need) unit.functions.items }
+    requires one { length unit.functions.items ≡ 1 }
+    requires none { unit.statics.items ≡ [] }
+{
     linkable_law();
-    let unit = seven(alloc)?;
     let layout = lay_out(alloc, &unit.functions[0])?;
     let layouts = vec![in alloc; layout]?;
     let names = vec![in alloc; String::from_str(alloc, "main")?]?;
@@ -74,11 +139,31 @@ fn linked(alloc: Global) -> Result<Code, Fault> {
     Ok(assembled.linker.finish()?)
 }
 
+fn linked_seven(alloc: Global) -> Result<Code, Fault> {
+    let unit = seven(alloc)?;
+    let code = linked(alloc, unit)?;
+    Ok(code)
+}
+
+fn linked_chain(alloc: Global) -> Result<Code, Fault> {
+    let unit = chain(alloc)?;
+    let code = linked(alloc, unit)?;
+    Ok(code)
+}
+
 /// The number of words of a program that is linked, those of `main` and of the lines that begin,
 /// and the entry.
 pub(crate) fn a_program_is_linked(case: &mut Case) {
     let alloc = case.alloc;
-    if let Some(code) = taken(linked(alloc), case) {
+    if let Some(code) = taken(linked_seven(alloc), case) {
+        tell_code(&code, case);
+    }
+}
+
+/// The same of a program with blocks that only lead on.
+pub(crate) fn a_chain_takes_no_word(case: &mut Case) {
+    let alloc = case.alloc;
+    if let Some(code) = taken(linked_chain(alloc), case) {
         tell_code(&code, case);
     }
 }

@@ -12,6 +12,7 @@ impl Kinds for Middle {
             "frame" => frames::objects_lie_behind_slots(case),
             "statics" => statics::statics_lie_apart(case),
             "assemble" => assembling::a_program_is_linked(case),
+            "chain" => assembling::a_chain_takes_no_word(case),
             "losses" => losses::power_fails(case),
             _ => case.end(Stop::Row),
         }

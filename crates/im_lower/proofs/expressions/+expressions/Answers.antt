@@ -1,12 +1,12 @@
-use Rattle.std.proofs.Common.{◌≡◌, OnOk, ℕ, rules, ap, sym, ◌∙◌, subst}
+use Rattle.std.proofs.Common.{◌≡◌, ◌+◌, OnOk, length, refl, rules, ap, sym, ◌∙◌, subst}
 use Rattle.im_ctype.specs.Layout.{layouts, layout_at}
 use Rattle.im_ctype.specs.Table.{structs_of}
 use Rattle.im_typed.specs.declared.expression.Expr.{Expr}
 use Rattle.im_typed.specs.declared.expression.Place.{Place}
 use Rattle.im_typed.specs.ProgramOf.{expr_of, place_of, program_of}
-use Rattle.im_lower_plain.specs.Made.{Made}
-use Rattle.im_lower_plain.specs.Make.{behind, make, make_place, place_at, put_operator}
-use Rattle.im_lower.proofs.Makes.{choice_made, copy_made, increment_made, operator_made, struct_made, two_made}
+use Rattle.im_lower_plain.specs.Made.{Made, close}
+use Rattle.im_lower_plain.specs.Make.{behind, fails_made, holds_made, make, make_place, make_test, place_at, put_operator}
+use Rattle.im_lower.proofs.Makes.{and_made, choice_made, copy_made, increment_made, operator_made, or_made, struct_made, two_made, value_decides}
 use Rattle.im_lower.proofs.Rows.{call_made}
 use Rattle.im_lower.proofs.expressions.+expressions.Goals as goal
 
@@ -32,8 +32,8 @@ lower_expression-returns-in_ok-put_increment-in-Increment t c =
     let whole = ap (λ (e : Expr). make g c.args.first (expr_of types e) c.args.to c.args.free m) w.is in
     subst (λ (z : Made). OnOk c.lower_place-in-Increment.result (c.lower_place-in-Increment.new.code ≡ z)) (walked ∙ made ∙ sym whole) c.lower_place-in-Increment.ensures
 
-pub lower_expression-returns-in_ok-start-in-Choose-2 : goal.lower_expression-returns-in_ok-start-in-Choose-2
-lower_expression-returns-in_ok-start-in-Choose-2 t c =
+pub lower_expression-returns-in_ok-holds-in-Choose : goal.lower_expression-returns-in_ok-holds-in-Choose
+lower_expression-returns-in_ok-holds-in-Choose t c =
     let g = program_of c.args.prog.now in
     let types = c.args.prog.now.types in
     let w = c.in-Choose in
@@ -44,13 +44,96 @@ lower_expression-returns-in_ok-start-in-Choose-2 t c =
     let m₄ = c.start-in-Choose.new.self in
     let m₅ = c.lower_expression-in-Choose-2.new.code in
     let m₆ = c.close-in-Choose-3.new.self in
-    let m₇ = c.start-in-Choose-2.new.self in
+    let fails = c.in_ok-fails-in-Choose.fails in
+    let holds = c.in_ok-holds-in-Choose.holds in
     let other = c.in_ok-lower_expression-in-Choose.ensures ∙ ap (λ (x : Expr). make g c.args.first (expr_of types x) c.args.to c.args.free m₁) c.deref-in-Choose.ensures in
     let one = c.in_ok-lower_expression-in-Choose-2.ensures ∙ ap (λ (x : Expr). make g c.args.first (expr_of types x) c.args.to c.args.free m₄) c.deref-in-Choose-2.ensures in
-    let made = choice_made g c.args.first (expr_of types w.test.value) (expr_of types w.one.value) (expr_of types w.other.value) c.args.to c.args.free c.in_ok-above.above c.in_ok-join-in-Choose.join c.in_ok-fails-in-Choose.fails c.in_ok-holds-in-Choose.holds m m₁ m₂ m₃ m₄ m₅ m₆ m₇ c.in_ok-above.ensures c.in_ok-join-in-Choose.ensures.number c.in_ok-join-in-Choose.ensures.closed other c.in_ok-fails-in-Choose.ensures.number c.in_ok-fails-in-Choose.ensures.closed c.in_ok-start-in-Choose.ensures one c.in_ok-holds-in-Choose.ensures.number c.in_ok-holds-in-Choose.ensures.closed c.in_ok-start-in-Choose-2.ensures in
-    let tested = ap (λ (x : Expr). make g c.args.first (expr_of types x) c.args.free c.in_ok-above.above m₇) c.deref-in-Choose-3.ensures in
+    let made = choice_made g c.args.first (expr_of types w.test.value) (expr_of types w.one.value) (expr_of types w.other.value) c.args.to c.args.free c.in_ok-join-in-Choose.join fails holds m m₁ m₂ m₃ m₄ m₅ m₆ c.in_ok-join-in-Choose.ensures.number c.in_ok-join-in-Choose.ensures.closed other c.in_ok-fails-in-Choose.ensures.number c.in_ok-fails-in-Choose.ensures.closed c.in_ok-start-in-Choose.ensures one c.in_ok-holds-in-Choose.ensures.number c.in_ok-holds-in-Choose.ensures.closed in
+    let tested = ap (λ (x : Expr). make_test g c.args.first (expr_of types x) c.args.free holds fails m₆) c.deref-in-Choose-3.ensures in
     let whole = ap (λ (e : Expr). make g c.args.first (expr_of types e) c.args.to c.args.free m) w.is in
-    subst (λ (z : Made). OnOk c.lower_expression-in-Choose-3.result (c.lower_expression-in-Choose-3.new.code ≡ z)) (tested ∙ made ∙ sym whole) c.lower_expression-in-Choose-3.ensures
+    subst (λ (z : Made). OnOk c.lower_test-in-Choose.result (c.lower_test-in-Choose.new.code ≡ z)) (tested ∙ made ∙ sym whole) c.lower_test-in-Choose.ensures
+
+pub lower_expression-returns-in_ok-holds-in-And : goal.lower_expression-returns-in_ok-holds-in-And
+lower_expression-returns-in_ok-holds-in-And t c =
+    let g = program_of c.args.prog.now in
+    let types = c.args.prog.now.types in
+    let w = c.in-And in
+    let m = c.args.code.now in
+    let m₁ = c.put_truths-in-And.new.code in
+    let m₂ = c.lower_test-in-And.new.code in
+    let m₃ = c.close-in-And.new.self in
+    let given = c.in_ok-truths-in-And in
+    let truths = given.truths in
+    let k = c.in_ok-holds-in-And.holds in
+    let right = c.in_ok-lower_test-in-And.ensures ∙ ap (λ (x : Expr). make_test g c.args.first (expr_of types x) c.args.free truths.holds truths.fails m₁) c.deref-in-And.ensures in
+    let made = and_made g c.args.first (expr_of types w.left.value) (expr_of types w.right.value) c.args.free (length (holds_made c.args.to m).blocks) (length (fails_made c.args.to m).blocks) truths.holds truths.fails k (close (holds_made c.args.to m)) m₁ m₂ m₃ given.ensures.holds given.ensures.fails given.ensures.made right c.in_ok-holds-in-And.ensures.number c.in_ok-holds-in-And.ensures.closed in
+    let tested = ap (λ (x : Expr). make_test g c.args.first (expr_of types x) c.args.free k truths.fails m₃) c.deref-in-And-2.ensures in
+    let whole = ap (λ (e : Expr). make g c.args.first (expr_of types e) c.args.to c.args.free m) w.is in
+    subst (λ (z : Made). OnOk c.lower_test-in-And-2.result (c.lower_test-in-And-2.new.code ≡ z)) (tested ∙ made ∙ sym whole) c.lower_test-in-And-2.ensures
+
+pub lower_expression-returns-in_ok-fails-in-Or : goal.lower_expression-returns-in_ok-fails-in-Or
+lower_expression-returns-in_ok-fails-in-Or t c =
+    let g = program_of c.args.prog.now in
+    let types = c.args.prog.now.types in
+    let w = c.in-Or in
+    let m = c.args.code.now in
+    let m₁ = c.put_truths-in-Or.new.code in
+    let m₂ = c.lower_test-in-Or.new.code in
+    let m₃ = c.close-in-Or.new.self in
+    let given = c.in_ok-truths-in-Or in
+    let truths = given.truths in
+    let k = c.in_ok-fails-in-Or.fails in
+    let right = c.in_ok-lower_test-in-Or.ensures ∙ ap (λ (x : Expr). make_test g c.args.first (expr_of types x) c.args.free truths.holds truths.fails m₁) c.deref-in-Or.ensures in
+    let made = or_made g c.args.first (expr_of types w.left.value) (expr_of types w.right.value) c.args.free (length (holds_made c.args.to m).blocks) (length (fails_made c.args.to m).blocks) truths.holds truths.fails k (close (holds_made c.args.to m)) m₁ m₂ m₃ given.ensures.holds given.ensures.fails given.ensures.made right c.in_ok-fails-in-Or.ensures.number c.in_ok-fails-in-Or.ensures.closed in
+    let tested = ap (λ (x : Expr). make_test g c.args.first (expr_of types x) c.args.free truths.holds k m₃) c.deref-in-Or-2.ensures in
+    let whole = ap (λ (e : Expr). make g c.args.first (expr_of types e) c.args.to c.args.free m) w.is in
+    subst (λ (z : Made). OnOk c.lower_test-in-Or-2.result (c.lower_test-in-Or-2.new.code ≡ z)) (tested ∙ made ∙ sym whole) c.lower_test-in-Or-2.ensures
+
+pub lower_test-returns-in_ok-holds-in-And : goal.lower_test-returns-in_ok-holds-in-And
+lower_test-returns-in_ok-holds-in-And t c =
+    let g = program_of c.args.prog.now in
+    let types = c.args.prog.now.types in
+    let w = c.in-And in
+    let m = c.args.code.now in
+    let targets = c.args.targets in
+    let m₁ = c.lower_test-in-And.new.code in
+    let m₂ = c.close-in-And.new.self in
+    let k = c.in_ok-holds-in-And.holds in
+    let right = c.in_ok-lower_test-in-And.ensures ∙ ap (λ (x : Expr). make_test g c.args.first (expr_of types x) c.args.free targets.holds targets.fails m) c.deref-in-And.ensures in
+    let made = and_made g c.args.first (expr_of types w.left.value) (expr_of types w.right.value) c.args.free targets.holds targets.fails targets.holds targets.fails k m m m₁ m₂ refl refl refl right c.in_ok-holds-in-And.ensures.number c.in_ok-holds-in-And.ensures.closed in
+    let tested = ap (λ (x : Expr). make_test g c.args.first (expr_of types x) c.args.free k targets.fails m₂) c.deref-in-And-2.ensures in
+    let whole = ap (λ (e : Expr). make_test g c.args.first (expr_of types e) c.args.free targets.holds targets.fails m) w.is in
+    subst (λ (z : Made). OnOk c.lower_test-in-And-2.result (c.lower_test-in-And-2.new.code ≡ z)) (tested ∙ made ∙ sym whole) c.lower_test-in-And-2.ensures
+
+pub lower_test-returns-in_ok-fails-in-Or : goal.lower_test-returns-in_ok-fails-in-Or
+lower_test-returns-in_ok-fails-in-Or t c =
+    let g = program_of c.args.prog.now in
+    let types = c.args.prog.now.types in
+    let w = c.in-Or in
+    let m = c.args.code.now in
+    let targets = c.args.targets in
+    let m₁ = c.lower_test-in-Or.new.code in
+    let m₂ = c.close-in-Or.new.self in
+    let k = c.in_ok-fails-in-Or.fails in
+    let right = c.in_ok-lower_test-in-Or.ensures ∙ ap (λ (x : Expr). make_test g c.args.first (expr_of types x) c.args.free targets.holds targets.fails m) c.deref-in-Or.ensures in
+    let made = or_made g c.args.first (expr_of types w.left.value) (expr_of types w.right.value) c.args.free targets.holds targets.fails targets.holds targets.fails k m m m₁ m₂ refl refl refl right c.in_ok-fails-in-Or.ensures.number c.in_ok-fails-in-Or.ensures.closed in
+    let tested = ap (λ (x : Expr). make_test g c.args.first (expr_of types x) c.args.free targets.holds k m₂) c.deref-in-Or-2.ensures in
+    let whole = ap (λ (e : Expr). make_test g c.args.first (expr_of types e) c.args.free targets.holds targets.fails m) w.is in
+    subst (λ (z : Made). OnOk c.lower_test-in-Or-2.result (c.lower_test-in-Or-2.new.code ≡ z)) (tested ∙ made ∙ sym whole) c.lower_test-in-Or-2.ensures
+
+pub lower_test-returns-in_ok-next-in_default : goal.lower_test-returns-in_ok-next-in_default
+lower_test-returns-in_ok-next-in_default t c =
+    let g = program_of c.args.prog.now in
+    let types = c.args.prog.now.types in
+    let targets = c.args.targets in
+    let free = c.args.free in
+    let m = c.args.code.now in
+    let m₁ = c.start.new.self in
+    let e = expr_of types c.args.test.now in
+    let above = ap (λ n. make g c.args.first e free n m₁) c.in_ok-next-in_default.ensures in
+    let begun = ap (make g c.args.first e free (free + 1)) c.in_ok-start-in_default.ensures in
+    let made = value_decides g c.args.first types c.args.test.now free targets.holds targets.fails m c.in_default.not-Not c.in_default.not-And c.in_default.not-Or in
+    subst (λ (z : Made). OnOk c.lower_expression.result (c.lower_expression.new.code ≡ z)) (above ∙ begun ∙ made) c.lower_expression.ensures
 
 pub lower_expression-returns-in_ok-lower_expression-in-Binary : goal.lower_expression-returns-in_ok-lower_expression-in-Binary
 lower_expression-returns-in_ok-lower_expression-in-Binary t c =
