@@ -12,11 +12,12 @@ use Rattle.im_block.specs.declared.unit.Unit.{Unit as Code}
 use Rattle.im_block.specs.Paths.{IsCut}
 use Rattle.im_block.specs.Forced.{StartsWithCut}
 use Rattle.im_alloc_placed.specs.Apart.{CutsApart, AllApart}
+use Rattle.im_block.proofs.Unitwise.{zip_old}
 use Rattle.im_alloc_relation.specs.Homes.{Home, InRegister, InSlot, numbers_kept, load, reg, save, into, give, bring, load_place, on_place, put_line, needed, put_lines, exit_lines}
-use Rattle.im_alloc_relation.specs.Placing.{ValidLine, Valid, IsPlaced}
+use Rattle.im_alloc_relation.specs.Placing.{ValidLine, Valid, PlacedFunction, IsPlaced}
 use Rattle.im_alloc_laws.proofs.Carried.{IsPlain, Carries, carried, carried_load, carried_into}
 use Rattle.im_alloc_laws.proofs.Needed.{needed_apart, needed_valid}
-use Rattle.im_alloc_laws.proofs.Pieces.{made, of_old}
+use Rattle.im_alloc_laws.proofs.Pieces.{made}
 
 abbrev Uncut : List Line → Type 0
 Uncut lines = StartsWithCut lines → ⊥
@@ -121,8 +122,8 @@ apart_exit h n (Return (Some r)) = carried_into Any CutsApart apart_carried (h r
 pub apart : (u v : Code) → IsPlaced u v → AllApart u → AllApart v
 apart u v p a = record {
   each = λ i g b y at there.
-      let o = of_old u.functions.items v.functions.items i g p.functions at in
-      let f = o.placed in
+      let o = zip_old PlacedFunction u.functions.items v.functions.items i g p.functions at in
+      let f = o.is in
       let m = made f.home f.first_access o.old.blocks.items g.blocks.items b y f.blocks there in
       let k : ℕ = m.number + numbers_kept * length (needed m.old.exit m.old.lines.items) in
       subst CutsApart (sym m.placed.lines)

@@ -1,5 +1,5 @@
 -- Order, forced cuts, and costs.
-use Rattle.std.proofs.Common.{◌≡◌, ℕ, ◌+◌, ◌*◌, List, [], ◌∷◌, ◌++◌, Some, None, refl, sym, ap, subst, length}
+use Rattle.std.proofs.Common.{◌≡◌, ℕ, ◌+◌, ◌*◌, List, [], ◌∷◌, ◌++◌, Some, None, sym, ap, subst, length}
 use Rattle.std.specs.Prelude.{map, slice_get}
 use Rattle.im_block.specs.declared.code.Line.{Line}
 use Rattle.im_block.specs.declared.code.Line.TheVariants.{Cut, Call, Serve}
@@ -11,11 +11,12 @@ use Rattle.im_block.specs.declared.unit.Unit.{Unit as Code}
 use Rattle.im_block.specs.Shape.{Descends, IsOrdered, AllOrdered}
 use Rattle.im_block.specs.Paths.{IsCut}
 use Rattle.im_block.specs.Forced.{StartsWithCut, EndsWithCut, CutAfterCalls, CutAtTurn, IsForced, AllForced}
+use Rattle.im_block.proofs.Unitwise.{zip_old, zip_map}
 use Rattle.im_alloc_relation.specs.Homes.{Home, InRegister, InSlot, numbers_kept, give, put_line, needed, put_lines, exit_lines, put_exit}
-use Rattle.im_alloc_relation.specs.Placing.{PlacedBlocks, PlacedFunction, PlacedFunctions, IsPlaced}
+use Rattle.im_alloc_relation.specs.Placing.{PlacedBlocks, PlacedFunction, IsPlaced}
 use Rattle.im_alloc_laws.proofs.Carried.{IsPlain, Carries, carried, carried_load, carried_into}
 use Rattle.im_alloc_laws.proofs.Needed.{needed_starts, needed_ends}
-use Rattle.im_alloc_laws.proofs.Pieces.{put_app, made, of_old}
+use Rattle.im_alloc_laws.proofs.Pieces.{put_app, made}
 
 -- edges
 
@@ -35,23 +36,14 @@ blocks_ordered h n xs ys p o = record {
 pub ordered : (u v : Code) → IsPlaced u v → AllOrdered u → AllOrdered v
 ordered u v p o = record {
   each = λ i g at.
-      let f = of_old u.functions.items v.functions.items i g p.functions at in
-      blocks_ordered f.placed.home f.placed.first_access f.old.blocks.items g.blocks.items f.placed.blocks (o.each i f.old f.at);
+      let f = zip_old PlacedFunction u.functions.items v.functions.items i g p.functions at in
+      blocks_ordered f.is.home f.is.first_access f.old.blocks.items g.blocks.items f.is.blocks (o.each i f.old f.at);
 }
 
 -- what frames may need
 
-functions_need : (fs gs : List Function) → PlacedFunctions fs gs → map (λ (f : Function). f.need) gs ≡ map (λ (f : Function). f.need) fs
-functions_need [] [] p = refl
-functions_need [] (g ∷ gs) p = absurd p
-functions_need (f ∷ fs) [] p = absurd p
-functions_need (f ∷ fs) (g ∷ gs) p =
-    let one : g.need ≡ f.need = ap (λ (k : Function). k.need) p.0.rest in
-    let rest = functions_need fs gs p.1 in
-    cc
-
 pub needs : (u v : Code) → IsPlaced u v → map (λ (f : Function). f.need) v.functions.items ≡ map (λ (f : Function). f.need) u.functions.items
-needs u v p = functions_need u.functions.items v.functions.items p.functions
+needs u v p = zip_map PlacedFunction (λ (f : Function). f.need) (λ f g k. ap (λ (z : Function). z.need) k.rest) u.functions.items v.functions.items p.functions
 
 -- cuts
 
@@ -146,6 +138,6 @@ function_forced f g p o = record {
 pub forced : (u v : Code) → IsPlaced u v → AllForced u → AllForced v
 forced u v p o = record {
   each = λ i g at.
-      let f = of_old u.functions.items v.functions.items i g p.functions at in
-      function_forced f.old g f.placed (o.each i f.old f.at);
+      let f = zip_old PlacedFunction u.functions.items v.functions.items i g p.functions at in
+      function_forced f.old g f.is (o.each i f.old f.at);
 }

@@ -1,5 +1,5 @@
--- A line's pieces stand before what follows; blocks and functions of placed code, and what they are made of.
-use Rattle.std.proofs.Common.{◌≡◌, ℕ, zero, suc, ◌+◌, ◌*◌, List, [], ◌∷◌, ◌++◌, Some, refl, ap, subst, length}
+-- A line's pieces stand before what follows; blocks of placed code, and what they are made of.
+use Rattle.std.proofs.Common.{◌≡◌, ℕ, zero, suc, ◌+◌, List, [], ◌∷◌, ◌++◌, Some, refl, ap}
 use Rattle.std.specs.Prelude.{slice_get, None}
 use Rattle.im_num.specs.declared.values.Cause.TheVariants.{Return as ReturnCut}
 use Rattle.im_block.specs.declared.code.Place.{Place}
@@ -7,9 +7,10 @@ use Rattle.im_block.specs.declared.code.Place.TheVariants.{Static, Local, Throug
 use Rattle.im_block.specs.declared.code.Line.{Line}
 use Rattle.im_block.specs.declared.code.Line.TheVariants.{Put, PutNull, Copy, Convert, Unary, Not, Compute, Compare, Move, Distance, Address, Read, Write, Reload, Spill, Cut, Call, Serve}
 use Rattle.im_block.specs.declared.code.Block.{Block}
-use Rattle.im_block.specs.declared.unit.Function.{Function}
-use Rattle.im_alloc_relation.specs.Homes.{Home, InRegister, InSlot, numbers_kept, load, reg, save, into, give, bring, load_place, on_place, put_line, needed}
-use Rattle.im_alloc_relation.specs.Placing.{PlacedBlock, PlacedBlocks, PlacedFunction, PlacedFunctions}
+use Rattle.im_block.specs.Unitwise.{number_at}
+use Rattle.im_block.proofs.Unitwise.{from_old}
+use Rattle.im_alloc_relation.specs.Homes.{Home, InRegister, InSlot, load, reg, save, into, give, bring, load_place, on_place, put_line}
+use Rattle.im_alloc_relation.specs.Placing.{PlacedBlock, PlacedBlocks, number_behind}
 
 save_app : (home : Home) (a : ℕ) (rest : List Line) → save home a rest ≡ save home a [] ++ rest
 save_app (InRegister r) a rest = refl
@@ -87,26 +88,6 @@ pub record Made (h : ℕ → Home) (xs : List Block) (b : ℕ) (y : Block) : Typ
   pub placed : PlacedBlock h number old y
 
 pub made : (h : ℕ → Home) (n : ℕ) (xs ys : List Block) (b : ℕ) (y : Block) → PlacedBlocks h n xs ys → slice_get ys b ≡ Some y → Made h xs b y
-made h n [] [] b y p e = cc
-made h n [] (z ∷ ys) b y p e = absurd p
-made h n (x ∷ xs) [] b y p e = absurd p
-made h n (x ∷ xs) (z ∷ ys) zero y p e =
-    let one : z ≡ y = cc in
-    record { old = x; at = refl; number = n; placed = subst (PlacedBlock h n x) one p.0 }
-made h n (x ∷ xs) (z ∷ ys) (suc b) y p e =
-    let m = made h (n + numbers_kept * suc (length (needed x.exit x.lines.items))) xs ys b y p.1 e in
-    record { old = m.old; at = m.at; number = m.number; placed = m.placed }
-
-pub record OfOld (fs : List Function) (i : ℕ) (g : Function) : Type 0 where
-  pub old : Function
-  pub at : slice_get fs i ≡ Some old
-  pub placed : PlacedFunction old g
-
-pub of_old : (fs gs : List Function) (i : ℕ) (g : Function) → PlacedFunctions fs gs → slice_get gs i ≡ Some g → OfOld fs i g
-of_old [] [] i g p e = cc
-of_old [] (k ∷ gs) i g p e = absurd p
-of_old (f ∷ fs) [] i g p e = absurd p
-of_old (f ∷ fs) (k ∷ gs) zero g p e =
-    let one : k ≡ g = cc in
-    record { old = f; at = refl; placed = subst (PlacedFunction f) one p.0 }
-of_old (f ∷ fs) (k ∷ gs) (suc i) g p e = let o = of_old fs gs i g p.1 e in record { old = o.old; at = o.at; placed = o.placed }
+made h n xs ys b y p e =
+    let o = from_old number_behind (PlacedBlock h) n xs ys b y p e in
+    record { old = o.old; at = o.at; number = number_at number_behind n xs b; placed = o.is }

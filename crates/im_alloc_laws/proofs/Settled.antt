@@ -6,7 +6,8 @@ use Rattle.im_block.specs.declared.code.Exit.{Exit}
 use Rattle.im_block.specs.declared.code.Block.{Block}
 use Rattle.im_block.specs.declared.unit.Function.{Function}
 use Rattle.im_block.specs.declared.unit.Unit.{Unit as Code}
-use Rattle.im_block.specs.Uncut.{WithCuts, Empty, Same, Added, SameBlock, SameBlocks, SameFunction, SameFunctions, SameButCuts}
+use Rattle.im_block.specs.Uncut.{WithCuts, Empty, Same, Added, SameBlock, SameFunction, SameButCuts}
+use Rattle.im_block.proofs.Unitwise.{zip_old}
 use Rattle.im_alloc_relation.specs.Homes.{numbers_kept, needed, put_lines, exit_lines, put_exit}
 use Rattle.im_alloc_relation.specs.Live.{uses, sets, lives}
 use Rattle.im_alloc_relation.specs.Placing.{PlacedFunction, PlacedFunctions, IsPlaced}
@@ -85,18 +86,6 @@ same_calls wanted exit old new Empty s = tt
 same_calls wanted exit old new (Same line a b d) s = ((λ c r w. s.0 c r (sym (same_lives wanted exit a b d r) ∙ w)), same_calls wanted exit a b d s.1)
 same_calls wanted exit old new (Added cause a b d) s = ((λ c. absurd c), same_calls wanted exit old b d s)
 
-record Old (xs : List Block) (b : ℕ) (y : Block) : Type 0 where
-  old : Block
-  at : slice_get xs b ≡ Some old
-  same : SameBlock old y
-
-old_of : (xs ys : List Block) (b : ℕ) (y : Block) → SameBlocks xs ys → slice_get ys b ≡ Some y → Old xs b y
-old_of [] [] b y s e = absurd cc
-old_of [] (z ∷ ys) b y s e = absurd s
-old_of (x ∷ xs) [] b y s e = absurd s
-old_of (x ∷ xs) (z ∷ ys) zero y s e = let one : z ≡ y = cc in record { old = x; at = refl; same = subst (SameBlock x) one s.0 }
-old_of (x ∷ xs) (z ∷ ys) (suc b) y s e = let r = old_of xs ys b y s.1 e in record { old = r.old; at = r.at; same = r.same }
-
 function_recut : (wanted : ℕ → ℕ → Bool) (f g : Function) → SameFunction f g → IsSettledFunction wanted f → IsSettledFunction wanted g
 function_recut wanted f g s h =
     let entry : g.entry ≡ f.entry = ap (λ (k : Function). k.entry) s.rest in
@@ -104,12 +93,12 @@ function_recut wanted f g s h =
     record {
       homes = h.homes;
       closed = λ b block r at w.
-          let o = old_of f.blocks.items g.blocks.items b block s.blocks at in
-          let w' : lives wanted block.lines.items o.old.exit r ≡ true = subst (λ z. lives wanted block.lines.items z r ≡ true) o.same.exit w in
-          h.closed b o.old r o.at (sym (same_lives wanted o.old.exit o.old.lines.items block.lines.items o.same.lines r) ∙ w');
+          let o = zip_old SameBlock f.blocks.items g.blocks.items b block s.blocks at in
+          let w' : lives wanted block.lines.items o.old.exit r ≡ true = subst (λ z. lives wanted block.lines.items z r ≡ true) o.is.exit w in
+          h.closed b o.old r o.at (sym (same_lives wanted o.old.exit o.old.lines.items block.lines.items o.is.lines r) ∙ w');
       calls = λ b block at.
-          let o = old_of f.blocks.items g.blocks.items b block s.blocks at in
-          subst (SettlesCalls wanted block.lines.items) (sym o.same.exit) (same_calls wanted o.old.exit o.old.lines.items block.lines.items o.same.lines (h.calls b o.old o.at));
+          let o = zip_old SameBlock f.blocks.items g.blocks.items b block s.blocks at in
+          subst (SettlesCalls wanted block.lines.items) (sym o.is.exit) (same_calls wanted o.old.exit o.old.lines.items block.lines.items o.is.lines (h.calls b o.old o.at));
       entered = λ r w.
           let e = h.entered r (subst (λ z. wanted z r ≡ true) entry w) in
           let low = e.0 in
@@ -117,12 +106,5 @@ function_recut wanted f g s h =
           (omega arith, omega arith);
     }
 
-all_recut : (wanted : ℕ → ℕ → ℕ → Bool) (fs gs : List Function) → SameFunctions fs gs → ((i : ℕ) (f : Function) → slice_get fs i ≡ Some f → IsSettledFunction (wanted i) f) → (i : ℕ) (g : Function) → slice_get gs i ≡ Some g → IsSettledFunction (wanted i) g
-all_recut wanted [] [] s h i g e = absurd cc
-all_recut wanted [] (k ∷ gs) s h i g e = absurd s
-all_recut wanted (f ∷ fs) [] s h i g e = absurd s
-all_recut wanted (f ∷ fs) (k ∷ gs) s h zero g e = let one : k ≡ g = cc in subst (IsSettledFunction (wanted 0)) one (function_recut (wanted 0) f k s.0 (h 0 f refl))
-all_recut wanted (f ∷ fs) (k ∷ gs) s h (suc i) g e = all_recut (λ j. wanted (suc j)) fs gs s.1 (λ j x at. h (suc j) x at) i g e
-
 pub recut : (u v : Code) → SameButCuts u v → IsSettled u → IsSettled v
-recut u v s h = record { wanted = h.wanted; each = all_recut h.wanted u.functions.items v.functions.items s.functions h.each }
+recut u v s h = record { wanted = h.wanted; each = λ i g at. let o = zip_old SameFunction u.functions.items v.functions.items i g s.functions at in function_recut (h.wanted i) o.old g o.is (h.each i o.old o.at) }

@@ -1,5 +1,5 @@
 -- Placed code is well formed, and has the forms that selection has.
-use Rattle.std.proofs.Common.{◌≡◌, ℕ, zero, suc, ◌+◌, ◌*◌, ◌≤◌, List, [], ◌∷◌, Some, None, refl, sym, ap, ◌∙◌, subst, arith, length, take}
+use Rattle.std.proofs.Common.{◌≡◌, ℕ, suc, ◌+◌, ◌*◌, ◌≤◌, List, [], ◌∷◌, Some, None, sym, ap, subst, arith, length}
 use Rattle.std.specs.Prelude.{slice_get, All}
 use Rattle.std.proofs.lemmas.List.Elements.{All-nil, All-cons, All-head, All-tail, All-weaker}
 use Rattle.im_num.specs.declared.values.Cause.TheVariants.{Return as ReturnCut}
@@ -13,18 +13,18 @@ use Rattle.im_block.specs.declared.code.Block.{Block}
 use Rattle.im_block.specs.declared.unit.Function.{Function}
 use Rattle.im_block.specs.declared.unit.Unit.{Unit as Code}
 use Rattle.im_block.specs.Shape.{sum_of}
-use Rattle.im_block.specs.Wellformed.{HasCells, PlaceWithin, LineWithin, ExitWithin, ExitThere, Takes, LineThere, IsBlock, IsFunction, IsWellFormed}
+use Rattle.im_block.specs.Wellformed.{HasCells, PlaceWithin, LineWithin, ExitWithin, ExitThere, LineThere, IsBlock, IsFunction, IsWellFormed}
+use Rattle.im_block.proofs.Unitwise.{zip_at, zip_length, from_so, takes_kept, numbers_kept as objects_kept}
 use Rattle.im_alloc_placed.specs.Operands.{PlaceAtHome}
 use Rattle.im_alloc_placed.specs.Placed.{IsPlacedLine, IsPlacedExit, IsPlacedBlock, IsPlacedFunction, IsPlacedCode}
 use Rattle.im_alloc_placed.specs.Placeable.{object_room, IsPlaceableFunction, IsPlaceable}
 use Rattle.im_alloc_relation.specs.Homes.{Home, InRegister, InSlot, numbers_kept, give, put_line, needed, put_lines, exit_lines, put_exit}
-use Rattle.im_alloc_relation.specs.Placing.{PlacedBlock, PlacedBlocks, PlacedFunction, PlacedFunctions}
+use Rattle.im_alloc_relation.specs.Placing.{PlacedBlock, PlacedBlocks, number_behind, PlacedFunction, PlacedFunctions}
 use Rattle.im_alloc_laws.specs.Numbered.{numbers_of_blocks, PlacedFrom, IsWellPlaced}
 use Rattle.im_alloc_laws.proofs.Accesses.{accesses_apart}
 use Rattle.im_alloc_laws.proofs.Carried.{IsPlain, Carries, carried, carried_load, carried_into}
 use Rattle.im_alloc_laws.proofs.Good.{Homes, SameObjects, good_blocks}
 use Rattle.im_alloc_laws.proofs.Needed.{needed_all}
-use Rattle.im_alloc_laws.proofs.Pieces.{of_old}
 
 -- the forms that selection has
 
@@ -98,31 +98,28 @@ exit_within (Branch on a b) h = h.1
 exit_within (Return None) h = tt
 exit_within (Return (Some r)) h = omega arith
 
-blocks_length : (h : ℕ → Home) (n : ℕ) (xs ys : List Block) → PlacedBlocks h n xs ys → length ys ≡ length xs
-blocks_length h n [] [] p = refl
-blocks_length h n [] (y ∷ ys) p = absurd p
-blocks_length h n (x ∷ xs) [] p = absurd p
-blocks_length h n (x ∷ xs) (y ∷ ys) p = ap suc (blocks_length h (n + numbers_kept * suc (length (needed x.exit x.lines.items))) xs ys p.1)
-
-takes_kept : (fs gs : List Function) (i count : ℕ) → PlacedFunctions fs gs → Takes (slice_get fs i) count → Takes (slice_get gs i) count
-takes_kept [] [] i count p t = absurd t
-takes_kept [] (g ∷ gs) i count p t = absurd p
-takes_kept (f ∷ fs) [] i count p t = absurd p
-takes_kept (f ∷ fs) (g ∷ gs) zero count p t = ap (λ (k : Function). k.parameters) p.0.rest ∙ t
-takes_kept (f ∷ fs) (g ∷ gs) (suc i) count p t = takes_kept fs gs i count p.1 t
-
 exit_there : (h : ℕ → Home) (n : ℕ) (exit : Exit) → ExitThere n exit → ExitThere n (put_exit h exit)
 exit_there h n (Jump b) t = t
 exit_there h n (Turn b) t = t
 exit_there h n (Branch on a b) t = t
 exit_there h n (Return from) t = tt
 
+parameters_kept : (f g : Function) → PlacedFunction f g → g.parameters ≡ f.parameters
+parameters_kept f g p = ap (λ (k : Function). k.parameters) p.rest
+
+abbrev AnyBlocks : Block → Block → Type 0
+AnyBlocks x y = Unit {0}
+
+blocks_length : (f g : Function) → PlacedFunction f g → length g.blocks.items ≡ length f.blocks.items
+blocks_length f g p =
+    zip_length AnyBlocks f.blocks.items g.blocks.items (from_so number_behind (PlacedBlock p.home) AnyBlocks (λ n x y k. tt) p.first_access f.blocks.items g.blocks.items p.blocks)
+
 module _ (fs gs : List Function) (all : PlacedFunctions fs gs) where
   abbrev There : Line → Type 0
   There line = LineThere gs line
 
   line_there : (line : Line) → LineThere fs line → There line
-  line_there (Call to i first count) h = takes_kept fs gs i count all h
+  line_there (Call to i first count) h = takes_kept PlacedFunction parameters_kept (slice_get fs i) (slice_get gs i) count (zip_at PlacedFunction fs gs i all) h
   line_there (Put to z) h = tt
   line_there line h = h
 
@@ -180,8 +177,8 @@ module _ (fs gs : List Function) (all : PlacedFunctions fs gs) where
 
   function_whole : (statics : ℕ) (f g : Function) → PlacedFunction f g → IsPlacedFunction statics g → IsFunction fs f → IsFunction gs g
   function_whole statics f g p good h =
-      let count : length g.blocks.items ≡ length f.blocks.items = blocks_length p.home p.first_access f.blocks.items g.blocks.items p.blocks in
-      let parameters : g.parameters ≡ f.parameters = ap (λ (k : Function). k.parameters) p.rest in
+      let count : length g.blocks.items ≡ length f.blocks.items = blocks_length f g p in
+      let parameters = parameters_kept f g p in
       let entry : g.entry ≡ f.entry = ap (λ (k : Function). k.entry) p.rest in
       let few = h.parameters in
       let there = h.entry in
@@ -204,28 +201,13 @@ functions_whole us ws whole statics (f ∷ fs) (g ∷ gs) p good h =
     (function_whole us ws whole statics f g p.0 (All-head (IsPlacedFunction statics) g gs good) (All-head (IsFunction us) f fs h))
     (functions_whole us ws whole statics fs gs p.1 (All-tail (IsPlacedFunction statics) g gs good) (All-tail (IsFunction us) f fs h))
 
-objects_sum : (fs gs : List Function) (i : ℕ) → PlacedFunctions fs gs → sum_of (λ (f : Function). length f.objects.items) (take i gs) ≡ sum_of (λ (f : Function). length f.objects.items) (take i fs)
-objects_sum fs gs zero p = refl
-objects_sum [] [] (suc i) p = refl
-objects_sum [] (g ∷ gs) (suc i) p = absurd p
-objects_sum (f ∷ fs) [] (suc i) p = absurd p
-objects_sum (f ∷ fs) (g ∷ gs) (suc i) p =
-    let a : length g.objects.items ≡ length f.objects.items = ap (λ (k : Function). length k.objects.items) p.0.rest in
-    let b = objects_sum fs gs i p.1 in
-    omega arith
-
 with_functions : (u v : Code) → IsWellPlaced u v → IsPlaceable u → IsWellFormed u → IsWellFormed (record u { functions = v.functions })
 with_functions u v w able h = record {
   statics = h.statics;
   functions =
       functions_whole u.functions.items v.functions.items w.placed.functions (length v.statics.items) u.functions.items v.functions.items w.placed.functions (placed_code u v w able).functions h.functions;
-  numbered = λ i g at.
-      let o = of_old u.functions.items v.functions.items i g w.placed.functions at in
-      let first : g.first_object ≡ o.old.first_object = ap (λ (k : Function). k.first_object) o.placed.rest in
-      let sums = objects_sum u.functions.items v.functions.items i w.placed.functions in
-      let before = h.numbered i o.old o.at in
-      omega arith;
-  main = takes_kept u.functions.items v.functions.items u.main 0 w.placed.functions h.main;
+  numbered = objects_kept PlacedFunction (λ f g k. ap (λ (z : Function). z.first_object) k.rest) (λ f g k. ap (λ (z : Function). length z.objects.items) k.rest) (length u.statics.items) u.functions.items v.functions.items w.placed.functions h.numbered;
+  main = takes_kept PlacedFunction parameters_kept (slice_get u.functions.items u.main) (slice_get v.functions.items u.main) 0 (zip_at PlacedFunction u.functions.items v.functions.items u.main w.placed.functions) h.main;
   accesses = accesses_apart u v w h.accesses;
 }
 

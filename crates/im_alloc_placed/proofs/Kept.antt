@@ -1,6 +1,6 @@
 -- What further cuts leave of placed and placeable code.
-use Rattle.std.proofs.Common.{◌≡◌, ℕ, zero, suc, List, [], ◌∷◌, length, Option, Some, None, refl, sym, subst}
-use Rattle.std.specs.Prelude.{slice_get, All}
+use Rattle.std.proofs.Common.{ℕ, List, ◌∷◌, length, sym, subst}
+use Rattle.std.specs.Prelude.{All}
 use Rattle.std.proofs.lemmas.List.Elements.{All-nil, All-cons, All-head, All-tail, All-weaker}
 use Rattle.im_num.specs.declared.values.Cause.{Cause}
 use Rattle.im_block.specs.declared.code.Place.{Place}
@@ -12,6 +12,7 @@ use Rattle.im_block.specs.declared.unit.Function.{Function}
 use Rattle.im_block.specs.declared.unit.Unit.{Unit as Code}
 use Rattle.im_block.specs.Paths.{IsEdge}
 use Rattle.im_block.specs.Uncut.{WithCuts, Empty, Same, Added, SameBlock, SameBlocks, SameFunction, SameFunctions, SameButCuts}
+use Rattle.im_block.proofs.Unitwise.{zip_old, zip_each}
 use Rattle.im_alloc_placed.specs.Operands.{PlaceExists}
 use Rattle.im_alloc_placed.specs.Placed.{IsPlacedLine, IsPlacedExit, IsPlacedBlock, IsPlacedFunction, IsPlacedCode}
 use Rattle.im_alloc_placed.specs.Placeable.{IsPlaceableLine, LineFrom, ExitFrom, Receives, first_free, IsPlaceableFunction, IsPlaceable}
@@ -20,48 +21,6 @@ lines_all : (P : Line → Type 0) → ((cause : Cause) → P (Cut cause)) → (o
 lines_all P cut old new Empty h = All-nil P
 lines_all P cut old new (Same line a b d) h = All-cons P line b (All-head P line a h) (lines_all P cut a b d (All-tail P line a h))
 lines_all P cut old new (Added cause a b d) h = All-cons P (Cut cause) b (cut cause) (lines_all P cut old b d h)
-
-blocks_all : (P Q : Block → Type 0) → ((x y : Block) → SameBlock x y → P x → Q y) → (xs ys : List Block) → SameBlocks xs ys → All P xs → All Q ys
-blocks_all P Q one [] [] s h = All-nil Q
-blocks_all P Q one [] (y ∷ ys) s h = absurd s
-blocks_all P Q one (x ∷ xs) [] s h = absurd s
-blocks_all P Q one (x ∷ xs) (y ∷ ys) s h = All-cons Q y ys (one x y s.0 (All-head P x xs h)) (blocks_all P Q one xs ys s.1 (All-tail P x xs h))
-
-functions_all : (P Q : Function → Type 0) → ((f g : Function) → SameFunction f g → P f → Q g) → (fs gs : List Function) → SameFunctions fs gs → All P fs → All Q gs
-functions_all P Q one [] [] s h = All-nil Q
-functions_all P Q one [] (y ∷ ys) s h = absurd s
-functions_all P Q one (x ∷ xs) [] s h = absurd s
-functions_all P Q one (x ∷ xs) (y ∷ ys) s h = All-cons Q y ys (one x y s.0 (All-head P x xs h)) (functions_all P Q one xs ys s.1 (All-tail P x xs h))
-
--- a block of the new code, and the old one
-abbrev BothBlocks : Option Block → Option Block → Type 0
-BothBlocks None None = Unit {0}
-BothBlocks (Some x) (Some y) = SameBlock x y
-BothBlocks None (Some y) = ⊥
-BothBlocks (Some x) None = ⊥
-
-both_blocks : (xs ys : List Block) (i : ℕ) → SameBlocks xs ys → BothBlocks (slice_get xs i) (slice_get ys i)
-both_blocks [] [] i h = tt
-both_blocks [] (y ∷ ys) i h = absurd h
-both_blocks (x ∷ xs) [] i h = absurd h
-both_blocks (x ∷ xs) (y ∷ ys) zero h = h.0
-both_blocks (x ∷ xs) (y ∷ ys) (suc i) h = both_blocks xs ys i h.1
-
-record OldBlock (xs : List Block) (b : ℕ) (y : Block) : Type 0 where
-  old : Block
-  at : slice_get xs b ≡ Some old
-  same : SameBlock old y
-
-old_block : (xs ys : List Block) (b : ℕ) (y : Block) → SameBlocks xs ys → slice_get ys b ≡ Some y → OldBlock xs b y
-old_block xs ys b y h e = find (slice_get xs b) (slice_get ys b) (both_blocks xs ys b h) refl e
-  where
-    find : (p q : Option Block) → BothBlocks p q → slice_get xs b ≡ p → q ≡ Some y → OldBlock xs b y
-    find None None both at e = cc
-    find None (Some z) both at e = absurd both
-    find (Some x) None both at e = absurd both
-    find (Some x) (Some z) both at e =
-        let one : z ≡ y = cc in
-        record { old = x; at = at; same = subst (SameBlock x) one both }
 
 -- what a line may name doesn't hang on blocks
 
@@ -99,12 +58,12 @@ placed_function statics f g same h = subst (IsPlacedFunction statics) (sym same.
   count = h.count;
   received = h.received;
   fits = h.fits;
-  blocks = blocks_all (IsPlacedBlock statics f) (IsPlacedBlock statics (record f { blocks = g.blocks })) (placed_block statics f g) f.blocks.items g.blocks.items same.blocks h.blocks;
+  blocks = zip_each SameBlock (IsPlacedBlock statics f) (IsPlacedBlock statics (record f { blocks = g.blocks })) (placed_block statics f g) f.blocks.items g.blocks.items same.blocks h.blocks;
 })
 
 placed_units : (u w : Code) → SameFunctions u.functions.items w.functions.items → IsPlacedCode u → IsPlacedCode (record u { functions = w.functions })
 placed_units u w all h = record {
-  functions = functions_all (IsPlacedFunction (length u.statics.items)) (IsPlacedFunction (length u.statics.items)) (placed_function (length u.statics.items)) u.functions.items w.functions.items all h.functions;
+  functions = zip_each SameFunction (IsPlacedFunction (length u.statics.items)) (IsPlacedFunction (length u.statics.items)) (placed_function (length u.statics.items)) u.functions.items w.functions.items all h.functions;
 }
 
 pub placed_kept : (old new : Code) → SameButCuts old new → IsPlacedCode old → IsPlacedCode new
@@ -128,20 +87,20 @@ placeable_in statics f g same h = record {
   first = h.first;
   room = h.room;
   lines = λ b block at.
-      let o = old_block f.blocks.items g.blocks.items b block same at in
-      placeable_lines statics f g o.old.lines.items block.lines.items o.same.lines (h.lines b o.old o.at);
+      let o = zip_old SameBlock f.blocks.items g.blocks.items b block same at in
+      placeable_lines statics f g o.old.lines.items block.lines.items o.is.lines (h.lines b o.old o.at);
   others = λ b block at apart.
-      let o = old_block f.blocks.items g.blocks.items b block same at in
-      lines_all (LineFrom (first_free f)) (λ cause. tt) o.old.lines.items block.lines.items o.same.lines (h.others b o.old o.at apart);
+      let o = zip_old SameBlock f.blocks.items g.blocks.items b block same at in
+      lines_all (LineFrom (first_free f)) (λ cause. tt) o.old.lines.items block.lines.items o.is.lines (h.others b o.old o.at apart);
   entry = λ block at.
-      let o = old_block f.blocks.items g.blocks.items f.entry block same at in
-      receives_kept (first_free f) o.old.lines.items block.lines.items o.same.lines (h.entry o.old o.at);
+      let o = zip_old SameBlock f.blocks.items g.blocks.items f.entry block same at in
+      receives_kept (first_free f) o.old.lines.items block.lines.items o.is.lines (h.entry o.old o.at);
   exits = λ b block at.
-      let o = old_block f.blocks.items g.blocks.items b block same at in
-      subst (ExitFrom (first_free f)) (sym o.same.exit) (h.exits b o.old o.at);
+      let o = zip_old SameBlock f.blocks.items g.blocks.items b block same at in
+      subst (ExitFrom (first_free f)) (sym o.is.exit) (h.exits b o.old o.at);
   no_return = λ b block at edge.
-      let o = old_block f.blocks.items g.blocks.items b block same at in
-      h.no_return b o.old o.at (subst (λ e. IsEdge e f.entry) o.same.exit edge);
+      let o = zip_old SameBlock f.blocks.items g.blocks.items b block same at in
+      h.no_return b o.old o.at (subst (λ e. IsEdge e f.entry) o.is.exit edge);
 }
 
 placeable_function : (statics : ℕ) (f g : Function) → SameFunction f g → IsPlaceableFunction statics f → IsPlaceableFunction statics g
@@ -149,7 +108,7 @@ placeable_function statics f g same h = subst (IsPlaceableFunction statics) (sym
 
 placeable_units : (u w : Code) → SameFunctions u.functions.items w.functions.items → IsPlaceable u → IsPlaceable (record u { functions = w.functions })
 placeable_units u w all h = record {
-  functions = functions_all (IsPlaceableFunction (length u.statics.items)) (IsPlaceableFunction (length u.statics.items)) (placeable_function (length u.statics.items)) u.functions.items w.functions.items all h.functions;
+  functions = zip_each SameFunction (IsPlaceableFunction (length u.statics.items)) (IsPlaceableFunction (length u.statics.items)) (placeable_function (length u.statics.items)) u.functions.items w.functions.items all h.functions;
 }
 
 pub placeable_kept : (old new : Code) → SameButCuts old new → IsPlaceable old → IsPlaceable new

@@ -1,18 +1,16 @@
 -- Paths of code with further cuts are paths of the old code.
-use Rattle.std.proofs.Common.{◌≡◌, ℕ, zero, suc, ◌+◌, ◌≤◌, List, [], ◌∷◌, Some, refl, sym, ap, subst, arith}
-use Rattle.std.specs.Prelude.{slice_get}
+use Rattle.std.proofs.Common.{◌≡◌, ℕ, ◌+◌, ◌≤◌, List, [], ◌∷◌, refl, sym, ap, subst, arith}
 use Rattle.im_block.specs.declared.code.Line.{Line}
 use Rattle.im_block.specs.declared.code.Line.TheVariants.{Cut}
 use Rattle.im_block.specs.declared.code.Exit.{Exit}
-use Rattle.im_block.specs.declared.code.Block.{Block}
 use Rattle.im_block.specs.declared.unit.Function.{Function}
 use Rattle.im_block.specs.Meaning.{Spot, at_block}
 use Rattle.im_block.specs.Paths.{IsCut, spot, Begins}
 use Rattle.im_block.specs.Shape.{with_cut}
-use Rattle.im_block.specs.Uncut.{WithCuts, Empty, Same, Added, SameBlock, SameBlocks, SameFunction}
+use Rattle.im_block.specs.Uncut.{WithCuts, Empty, Same, Added, SameBlock, SameFunction}
+use Rattle.im_block.proofs.Unitwise.{zip_old}
 use Rattle.im_cut_gap.specs.Costs.{leave_cost, CostPath, Here, Along, Across, NoneLonger}
 use Rattle.im_cut_gap.specs.Remaining.{LiesOn}
-use Rattle.im_cut_gap.proofs.Costs.{some_same, none_some}
 
 record Peeled (old : List Line) (line : Line) (rest : List Line) : Type 0 where
   left : List Line
@@ -34,18 +32,6 @@ none_left old new Empty e = refl
 none_left old new (Same x a b h) e = cc
 none_left old new (Added cause a b h) e = cc
 
-pub record Twin (xs : List Block) (k : ℕ) (y : Block) : Type 0 where
-  pub block : Block
-  pub at : slice_get xs k ≡ Some block
-  pub same : SameBlock block y
-
-pub twin : (xs ys : List Block) (k : ℕ) (y : Block) → SameBlocks xs ys → slice_get ys k ≡ Some y → Twin xs k y
-twin [] [] k y h e = absurd (none_some y e)
-twin (x ∷ xs) [] k y h e = absurd h
-twin [] (z ∷ ys) k y h e = absurd h
-twin (x ∷ xs) (z ∷ ys) zero y h e = let one : z ≡ y = some_same z y e in record { block = x; at = refl; same = subst (λ (q : Block). SameBlock x q) one h.0 }
-twin (x ∷ xs) (z ∷ ys) (suc k) y h e = let t = twin xs ys k y h.1 e in record { block = t.block; at = t.at; same = t.same }
-
 module _ (old new : Function) (same : SameFunction old new) (start from : Spot) (before : ℕ) where
   -- a path of the old code that costs so much more, to where this one comes
   pub record Follows (n : ℕ) (s : Spot) : Type 0 where
@@ -65,10 +51,10 @@ module _ (old new : Function) (same : SameFunction old new) (start from : Spot) 
       let r = follows k (spot b [] exit) first q in
       let none = none_left r.rest [] r.more refl in
       let here = subst (λ (t : List Line). CostPath old.blocks.items start (before + k) (spot b t exit)) none r.path in
-      let t = twin old.blocks.items new.blocks.items c block same.blocks at in
+      let t = zip_old SameBlock old.blocks.items new.blocks.items c block same.blocks at in
       let sum : (before + k) + leave_cost exit ≡ before + (k + leave_cost exit) = omega arith in
-      let over = subst (λ (m : ℕ). CostPath old.blocks.items start m (at_block c t.block)) sum (Across (before + k) b exit c t.block edge t.at here) in
-      record { rest = t.block.lines.items; path = subst (λ (x : Exit). CostPath old.blocks.items start (before + (k + leave_cost exit)) (spot c t.block.lines.items x)) (sym t.same.exit) over; more = t.same.lines }
+      let over = subst (λ (m : ℕ). CostPath old.blocks.items start m (at_block c t.old)) sum (Across (before + k) b exit c t.old edge t.at here) in
+      record { rest = t.old.lines.items; path = subst (λ (x : Exit). CostPath old.blocks.items start (before + (k + leave_cost exit)) (spot c t.old.lines.items x)) (sym t.is.exit) over; more = t.is.lines }
 
 module _ (limit : ℕ) (old new : Function) (same : SameFunction old new) (lies : (s : Spot) → Begins new s → LiesOn old s) (bounded : NoneLonger limit old) where
   reached : (start : Spot) (from : Begins new start) (n : ℕ) (s : Spot) → CostPath new.blocks.items start n s → Follows old new same (lies start from).start start (lies start from).cost n s
