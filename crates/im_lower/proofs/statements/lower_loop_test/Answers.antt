@@ -1,4 +1,4 @@
-use Rattle.std.proofs.Common.{◌≡◌, ℕ, List, length, ap, ◌∙◌}
+use Rattle.std.proofs.Common.{ℕ, List, length, ap, ◌∙◌}
 use Rattle.im_typed.specs.ProgramOf.{expr_of, program_of}
 use Rattle.im_block.specs.declared.code.Exit.TheVariants.{Turn}
 use Rattle.im_lower_relation.specs.Codes.{Point}
