@@ -13,10 +13,11 @@ use Rattle.im_typed.specs.declared.expression.Expr as re
 use Rattle.im_typed.specs.declared.expression.Place as rp
 use Rattle.im_typed.specs.Program as p
 use Rattle.im_typed.specs.ProgramOf.{access_of, expr_of, place_of}
+use Rattle.im_typed.specs.Values.{changed_kind}
 use Rattle.im_block.specs.declared.code.Exit.TheVariants.{Jump, Branch}
 use Rattle.im_block.specs.declared.code.Place.{Place}
-use Rattle.im_lower_plain.specs.Made.{Made, close, start}
-use Rattle.im_lower_plain.specs.Make.{behind, make, make_place, make_test, place_at, put_copy, put_increment, put_operator}
+use Rattle.im_lower_plain.specs.Made.{Made, close, put_read, start}
+use Rattle.im_lower_plain.specs.Make.{behind, make, make_place, make_test, place_at, put_change, put_copy, put_increment, put_operator}
 
 module _ (g : p.Prog) (first : ℕ) where
   pub choice_made : (q a b : p.Expr) (to free join fails holds : ℕ) (m m₁ m₂ m₃ m₄ m₅ m₆ : Made)
@@ -85,6 +86,21 @@ module _ (g : p.Prog) (first : ℕ) where
   increment_made a change old to free beside at m m₁ is_at is_beside is₁ =
       ap (make_place g first a free)
       (is₁ ∙ ap (λ n. put_increment change old to n at m) is_beside ∙ ap (λ x. put_increment change old to (behind a free) x m) is_at)
+
+  pub update_made : (a : p.Place) (e : p.Expr) (change : Change) (to free from beside : ℕ) (at : Place) (kind : Kind) (m m₁ m₂ m₃ : Made)
+      → at ≡ place_at first a free → from ≡ behind a free → m₁ ≡ put_change change to to from at m → beside ≡ from + 1
+      → m₂ ≡ make g first e from beside m₁ → kind ≡ changed_kind change → m₃ ≡ put_read to at kind m₂
+      → make_place g first a free m₃ ≡ make g first (p.Update a change e) to free m
+  update_made a e change to free from beside at kind m m₁ m₂ m₃ is_at is_from is₁ is_beside is₂ is_kind is₃ =
+      let put : m₁ ≡ put_change change to to (behind a free) (place_at first a free) m =
+      is₁ ∙ ap (λ n. put_change change to to n at m) is_from ∙ ap (λ x. put_change change to to (behind a free) x m) is_at in
+      let next : beside ≡ behind a free + 1 = is_beside ∙ ap (λ n. n + 1) is_from in
+      let value : m₂ ≡ make g first e (behind a free) (behind a free + 1) (put_change change to to (behind a free) (place_at first a free) m) =
+      is₂ ∙ ap (λ n. make g first e n beside m₁) is_from ∙ ap (λ n. make g first e (behind a free) n m₁) next
+      ∙ ap (make g first e (behind a free) (behind a free + 1)) put in
+      ap (make_place g first a free)
+      (is₃ ∙ ap (λ x. put_read to x kind m₂) is_at ∙ ap (λ k. put_read to (place_at first a free) k m₂) is_kind
+      ∙ ap (put_read to (place_at first a free) (changed_kind change)) value)
 
   pub copy_made : (a : p.Place) (e : p.Expr) (count : ℕ) (cells found : List Cell) (to free from beside : ℕ) (at : Place) (m m₁ m₂ : Made)
       → from ≡ behind a free → found ≡ cells → at ≡ place_at first a free → m₁ ≡ put_copy to from at found m

@@ -6,7 +6,7 @@ use Rattle.im_typed.specs.declared.expression.Place.{Place}
 use Rattle.im_typed.specs.ProgramOf.{expr_of, place_of, program_of}
 use Rattle.im_lower_plain.specs.Made.{Made, close}
 use Rattle.im_lower_plain.specs.Make.{behind, fails_made, holds_made, make, make_place, make_test, place_at, put_operator}
-use Rattle.im_lower.proofs.Makes.{and_made, choice_made, copy_made, increment_made, operator_made, or_made, struct_made, two_made, value_decides}
+use Rattle.im_lower.proofs.Makes.{and_made, choice_made, copy_made, increment_made, operator_made, or_made, struct_made, two_made, update_made, value_decides}
 use Rattle.im_lower.proofs.Rows.{call_made}
 use Rattle.im_lower.proofs.expressions.+expressions.Goals as goal
 
@@ -172,3 +172,34 @@ lower_expression-returns-in_ok-lower_expression-in-Struct t c =
     let walked = ap (λ (x : Place). make_place g c.args.first (place_of types x) c.args.free m₂) c.deref-in-Struct-5.ensures in
     let whole = struct_made g c.args.first types c.args.expression.now w.access w.place w.value s.number s.cells c.args.to c.args.free m w.is s.is in
     subst (λ (z : Made). OnOk c.lower_place-in-Struct.result (c.lower_place-in-Struct.new.code ≡ z)) (walked ∙ made ∙ whole) c.lower_place-in-Struct.ensures
+
+pub lower_test-returns-in-Not : goal.lower_test-returns-in-Not
+lower_test-returns-in-Not t c =
+    let g = program_of c.args.prog.now in
+    let types = c.args.prog.now.types in
+    let m = c.args.code.now in
+    let targets = c.args.targets in
+    let turned = ap (λ (x : Expr). make_test g c.args.first (expr_of types x) c.args.free targets.fails targets.holds m) c.deref.ensures in
+    let whole = ap (λ (e : Expr). make_test g c.args.first (expr_of types e) c.args.free targets.holds targets.fails m) c.in-Not.is in
+    subst (λ (z : Made). OnOk c.lower_test.result (c.lower_test.new.code ≡ z)) (turned ∙ sym whole) c.lower_test.ensures
+
+pub lower_expression-returns-in_ok-put_read-in-Update : goal.lower_expression-returns-in_ok-put_read-in-Update
+lower_expression-returns-in_ok-put_read-in-Update t c =
+    let g = program_of c.args.prog.now in
+    let types = c.args.prog.now.types in
+    let w = c.in-Update in
+    let m = c.args.code.now in
+    let a = place_of types w.place.value in
+    let from = c.in_ok-from-in-Update.from in
+    let beside = c.in_ok-next-in-Update.field-0 in
+    let at = c.in_ok-at-in-Update.at in
+    let m₁ = c.put_change.new.code in
+    let m₂ = c.lower_expression-in-Update.new.code in
+    let m₃ = c.put_read.new.self in
+    let at_is = c.in_ok-at-in-Update.ensures types ∙ ap (λ (x : Place). place_at c.args.first (place_of types x) c.args.free) c.deref-in-Update.ensures in
+    let behind_is = c.in_ok-from-in-Update.ensures types ∙ ap (λ (x : Place). behind (place_of types x) c.args.free) c.deref-in-Update-2.ensures in
+    let value_is = c.in_ok-lower_expression-in-Update.ensures ∙ ap (λ (x : Expr). make g c.args.first (expr_of types x) from beside m₁) c.deref-in-Update-3.ensures in
+    let made = update_made g c.args.first a (expr_of types w.by.value) w.change c.args.to c.args.free from beside at c.changed_kind.result m m₁ m₂ m₃ at_is behind_is c.in_ok-put_change-in-Update.ensures c.in_ok-next-in-Update.ensures value_is c.changed_kind.ensures c.in_ok-put_read-in-Update.ensures in
+    let walked = ap (λ (x : Place). make_place g c.args.first (place_of types x) c.args.free m₃) c.deref-in-Update-4.ensures in
+    let whole = ap (λ (e : Expr). make g c.args.first (expr_of types e) c.args.to c.args.free m) w.is in
+    subst (λ (z : Made). OnOk c.lower_place-in-Update.result (c.lower_place-in-Update.new.code ≡ z)) (walked ∙ made ∙ sym whole) c.lower_place-in-Update.ensures
