@@ -196,13 +196,16 @@ worth true block = block_words block
 worth false block = block_words block + one_if (jump_of block.lines.items block.exit)
 
 worth_most : (few : Bool) (block : Block) → worth few block ≤ max 1 ((sum_of line_halves block.lines.items + 1) / 2)
-worth_most few block = by few (jump_of block.lines.items block.exit)
+worth_most true block = by (jump_of block.lines.items block.exit)
   where
-    by : (t : Bool) (o : Option ℕ) → (if t then words_by o block.lines.items else words_by o block.lines.items + one_if o) ≤ max 1 ((sum_of line_halves block.lines.items + 1) / 2)
-    by true None = omega arith
-    by true (Some c) = omega arith
-    by false None = omega arith
-    by false (Some c) = omega arith
+    by : (o : Option ℕ) → words_by o block.lines.items ≤ max 1 ((sum_of line_halves block.lines.items + 1) / 2)
+    by None = omega arith
+    by (Some c) = omega arith
+worth_most false block = by (jump_of block.lines.items block.exit)
+  where
+    by : (o : Option ℕ) → words_by o block.lines.items + one_if o ≤ max 1 ((sum_of line_halves block.lines.items + 1) / 2)
+    by None = omega arith
+    by (Some c) = omega arith
 
 block_some : (at : Name → ℕ) (m : ℕ → ℕ) (live : ℕ → ℕ → Bool) (leads : ℕ → ℕ) (distance : Reach) (next : Option ℕ) (first frame b : ℕ) (few : Bool) (block : Block) → worth few block ≤ length (block_code at m live leads distance next first frame b block)
 block_some at m live leads distance next first frame b few block =
@@ -247,29 +250,29 @@ laid_some laying few (b ∷ order) =
 module _ (few : Bool) (blocks : List Block) (entry : ℕ) where
   abbrev upto : ℕ → ℕ
   upto zero = 0
-  upto (suc n) = words_at blocks n + upto n
+  upto (suc n) = words_at few blocks n + upto n
 
   abbrev others : ℕ → ℕ
-  others n = sum_of (words_at blocks) (others_below entry n)
+  others n = sum_of (words_at few blocks) (others_below entry n)
 
   before_entry : (n : ℕ) → n ≤ entry → upto n ≤ others n
   before_entry zero h = omega arith
   before_entry (suc n) h = by (n == entry) refl (before_entry n (omega arith))
     where
-      by : (t : Bool) → (n == entry) ≡ t → upto n ≤ others n → upto (suc n) ≤ sum_of (words_at blocks) (if t then others_below entry n else n ∷ others_below entry n)
+      by : (t : Bool) → (n == entry) ≡ t → upto n ≤ others n → upto (suc n) ≤ sum_of (words_at few blocks) (if t then others_below entry n else n ∷ others_below entry n)
       by true e k = let same : n ≡ entry = grind (arith, nat_tests) in absurd (omega arith)
       by false e k = omega arith
 
   -- each but the entry is among the others
-  with_entry : (n : ℕ) → upto n ≤ words_at blocks entry + others n
+  with_entry : (n : ℕ) → upto n ≤ words_at few blocks entry + others n
   with_entry zero = omega arith
   with_entry (suc n) = by (n == entry) refl (with_entry n)
     where
-      by : (t : Bool) → (n == entry) ≡ t → upto n ≤ words_at blocks entry + others n → upto (suc n) ≤ words_at blocks entry + sum_of (words_at blocks) (if t then others_below entry n else n ∷ others_below entry n)
+      by : (t : Bool) → (n == entry) ≡ t → upto n ≤ words_at few blocks entry + others n → upto (suc n) ≤ words_at few blocks entry + sum_of (words_at few blocks) (if t then others_below entry n else n ∷ others_below entry n)
       by true e rest =
           let same : n ≡ entry = grind (arith, nat_tests) in
           let k = before_entry n (omega arith) in
-          let here : words_at blocks n ≡ words_at blocks entry = ap (words_at blocks) same in
+          let here : words_at few blocks n ≡ words_at few blocks entry = ap (words_at few blocks) same in
           omega arith
       by false e rest = omega arith
 
