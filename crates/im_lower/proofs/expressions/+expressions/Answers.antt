@@ -39,10 +39,10 @@ lower_expression-returns-in_ok-holds-in-Choose t c =
     let w = c.in-Choose in
     let m = c.args.code.now in
     let m₁ = c.close-in-Choose.new.self in
-    let m₂ = c.lower_expression-in-Choose.new.code in
+    let m₂ = c.lower_expression.new.code in
     let m₃ = c.close-in-Choose-2.new.self in
-    let m₄ = c.start-in-Choose.new.self in
-    let m₅ = c.lower_expression-in-Choose-2.new.code in
+    let m₄ = c.start.new.self in
+    let m₅ = c.lower_expression-in-Choose.new.code in
     let m₆ = c.close-in-Choose-3.new.self in
     let fails = c.in_ok-fails-in-Choose.fails in
     let holds = c.in_ok-holds-in-Choose.holds in
@@ -59,9 +59,9 @@ lower_expression-returns-in_ok-holds-in-And t c =
     let types = c.args.prog.now.types in
     let w = c.in-And in
     let m = c.args.code.now in
-    let m₁ = c.put_truths-in-And.new.code in
-    let m₂ = c.lower_test-in-And.new.code in
-    let m₃ = c.close-in-And.new.self in
+    let m₁ = c.put_truths.new.code in
+    let m₂ = c.lower_test.new.code in
+    let m₃ = c.close.new.self in
     let given = c.in_ok-truths-in-And in
     let truths = given.truths in
     let k = c.in_ok-holds-in-And.holds in
@@ -69,7 +69,7 @@ lower_expression-returns-in_ok-holds-in-And t c =
     let made = and_made g c.args.first (expr_of types w.left.value) (expr_of types w.right.value) c.args.free (length (holds_made c.args.to m).blocks) (length (fails_made c.args.to m).blocks) truths.holds truths.fails k (close (holds_made c.args.to m)) m₁ m₂ m₃ given.ensures.holds given.ensures.fails given.ensures.made right c.in_ok-holds-in-And.ensures.number c.in_ok-holds-in-And.ensures.closed in
     let tested = ap (λ (x : Expr). make_test g c.args.first (expr_of types x) c.args.free k truths.fails m₃) c.deref-in-And-2.ensures in
     let whole = ap (λ (e : Expr). make g c.args.first (expr_of types e) c.args.to c.args.free m) w.is in
-    subst (λ (z : Made). OnOk c.lower_test-in-And-2.result (c.lower_test-in-And-2.new.code ≡ z)) (tested ∙ made ∙ sym whole) c.lower_test-in-And-2.ensures
+    subst (λ (z : Made). OnOk c.lower_test-in-And.result (c.lower_test-in-And.new.code ≡ z)) (tested ∙ made ∙ sym whole) c.lower_test-in-And.ensures
 
 pub lower_expression-returns-in_ok-fails-in-Or : goal.lower_expression-returns-in_ok-fails-in-Or
 lower_expression-returns-in_ok-fails-in-Or t c =
@@ -97,7 +97,7 @@ lower_test-returns-in_ok-holds-in-And t c =
     let m = c.args.code.now in
     let targets = c.args.targets in
     let m₁ = c.lower_test-in-And.new.code in
-    let m₂ = c.close-in-And.new.self in
+    let m₂ = c.close.new.self in
     let k = c.in_ok-holds-in-And.holds in
     let right = c.in_ok-lower_test-in-And.ensures ∙ ap (λ (x : Expr). make_test g c.args.first (expr_of types x) c.args.free targets.holds targets.fails m) c.deref-in-And.ensures in
     let made = and_made g c.args.first (expr_of types w.left.value) (expr_of types w.right.value) c.args.free targets.holds targets.fails targets.holds targets.fails k m m m₁ m₂ refl refl refl right c.in_ok-holds-in-And.ensures.number c.in_ok-holds-in-And.ensures.closed in
