@@ -1,5 +1,6 @@
 pub mod Below
 pub mod Cases
+pub mod Counting
 pub mod Naming
 pub mod Numbers
 pub mod Reading

@@ -1,10 +1,11 @@
 -- What is counted and told of a case.
-use Rattle.std.specs.Prelude.{◌≡◌, ℕ, ◌+◌, ◌-◌, ◌^◌, Bool, true, false, List, ◌++◌, codes, bytes_eq, min, if◌then◌else◌}
+use Rattle.std.specs.Prelude.{◌≡◌, ℕ, zero, suc, ◌+◌, ◌-◌, ◌^◌, Bool, true, false, List, [], ◌∷◌, ◌++◌, codes, bytes_eq, min, if◌then◌else◌}
 use Rattle.im_trial.specs.declared.case.Case.{Case}
 use Rattle.im_trial.specs.declared.row.Row.{Row}
 use Rattle.im_trial.specs.declared.tally.Tally.{Tally}
 use Rattle.im_trial.specs.Finding.{found_of}
 use Rattle.im_trial.specs.Rows.{field_of, wanted_of}
+use Rattle.im_trial.specs.Texts.{has_text}
 
 -- a case passes if it found what its row wants, byte by byte
 abbrev pub passes : Row → Case → Bool
@@ -20,6 +21,16 @@ counted false tally = record { passed = tally.passed; failed = one_more tally.fa
 -- one case more is counted, as one that passed or as one that failed
 abbrev pub IsCounted : Tally → Tally → Type 0
 IsCounted before after = (passed : Bool) × (after ≡ counted passed before)
+
+-- so many cases are counted, one after another
+abbrev pub AreCounted : ℕ → Tally → Tally → Type 0
+AreCounted zero before after = after ≡ before
+AreCounted (suc count) before after = (between : Tally) × AreCounted count before between × IsCounted between after
+
+-- how many rows are cases: those that have no text
+abbrev pub cases_in : List Row → ℕ
+cases_in [] = zero
+cases_in (row ∷ rows) = if has_text row then cases_in rows else suc (cases_in rows)
 
 -- the kind, the name, and where that isn't what the row wants, both texts
 abbrev pub told_of : Row → Case → List ℕ

@@ -1,5 +1,5 @@
 ghost use Rattle.std.specs.Prelude.{◌≡◌, true, false, OnOk};
-ghost use Rattle.im_trial.specs.Judging.{IsCounted};
+ghost use Rattle.im_trial.specs.Judging.{AreCounted, IsCounted, cases_in};
 ghost use Rattle.im_trial.specs.Texts.{has_text};
 
 use crate::case::Case;
@@ -36,6 +36,22 @@ fn run_row<K: Kinds>(
     tally.judge(rt, row, &case)
 }
 
+// Runs rows, one after another.
+fn run_rows<K: Kinds>(
+    rt: &HostRuntime,
+    kinds: &K,
+    texts: &mut Texts,
+    tally: &mut Tally,
+    rows: &[Row<'_>],
+) -> Result<(), Stop>
+    ensures { OnOk result (AreCounted (cases_in rows.now) tally.old tally.new) }
+{
+    for row in rows {
+        run_row(rt, kinds, texts, tally, row)?;
+    }
+    Ok(())
+}
+
 fn run_table<K: Kinds>(
     rt: &HostRuntime,
     kinds: &K,
@@ -44,10 +60,7 @@ fn run_table<K: Kinds>(
     name: &str,
 ) -> Result<(), Stop> {
     let table = fs::read_to_string(rt, name)?;
-    for row in &rows_of(rt.alloc(), &table)? {
-        run_row(rt, kinds, texts, tally, row)?;
-    }
-    Ok(())
+    run_rows(rt, kinds, texts, tally, &rows_of(rt.alloc(), &table)?)
 }
 
 /// Runs the cases of tables, files of these names, in turn: prints what each found, and the counts.
