@@ -1,5 +1,5 @@
 -- Placed code is ready for the passes behind.
-use Rattle.std.proofs.Common.{◌≡◌, ◌≤◌, ℕ, suc, ◌+◌, ◌*◌, List, [], ◌∷◌, Option, Some, None, map, length, refl, sym, ap, ◌∙◌, subst, arith}
+use Rattle.std.proofs.Common.{◌≡◌, ◌≤◌, ℕ, ◌+◌, ◌*◌, List, [], ◌∷◌, Option, Some, None, map, length, refl, sym, ap, ◌∙◌, subst, arith}
 use Rattle.std.specs.Prelude.{◌/◌}
 use Rattle.std.proofs.lemmas.List.{length-map}
 use Rattle.std.proofs.lemmas.List.Elements.{All-weaker}
@@ -15,7 +15,8 @@ use Rattle.im_block.specs.declared.unit.Static.{Static as StaticOf}
 use Rattle.im_block.specs.declared.unit.Function.{Function}
 use Rattle.im_block.specs.declared.unit.Unit.{Unit as Code}
 use Rattle.im_block.specs.Meaning.{static_of, statics_of}
-use Rattle.im_block.specs.Uncut.{SameFunctions}
+use Rattle.im_block.specs.Uncut.{SameFunction}
+use Rattle.im_block.proofs.Unitwise.{zip_length}
 use Rattle.im_block.specs.Shape.{AllOrdered}
 use Rattle.im_block.specs.Tagged.{IsSound}
 use Rattle.im_block.specs.Forced.{AllForced}
@@ -33,7 +34,7 @@ use Rattle.im_recut.specs.Recut.{IsGapLimit, RecutsTo}
 use Rattle.im_recut.specs.Laws.{RecutKeepsLaw}
 use Rattle.im_lower_relation.specs.Lowered.{IsLowered, AreSized}
 use Rattle.im_lower_relation.specs.Laws.{LoweredFormLaw}
-use Rattle.im_alloc_relation.specs.Placing.{IsPlaced, PlacedFunctions}
+use Rattle.im_alloc_relation.specs.Placing.{IsPlaced, PlacedFunction}
 use Rattle.im_alloc_laws.specs.Numbered.{IsWellPlaced}
 use Rattle.im_alloc_laws.specs.Laws.{PlacedCodeLaw}
 use Rattle.im_compile_dependences.specs.Laws.{UncutNames, ForceNames, PlaceNames, RecutNames}
@@ -119,18 +120,6 @@ namable prog max_gap code p h =
 
 -- functions are as many as before
 
-same_count : (fs gs : List Function) → SameFunctions fs gs → length gs ≡ length fs
-same_count [] [] h = refl
-same_count [] (g ∷ gs) h = absurd h
-same_count (f ∷ fs) [] h = absurd h
-same_count (f ∷ fs) (g ∷ gs) h = ap (λ n. suc n) (same_count fs gs h.1)
-
-placed_count : (fs gs : List Function) → PlacedFunctions fs gs → length gs ≡ length fs
-placed_count [] [] h = refl
-placed_count [] (g ∷ gs) h = absurd h
-placed_count (f ∷ fs) [] h = absurd h
-placed_count (f ∷ fs) (g ∷ gs) h = ap (λ n. suc n) (placed_count fs gs h.1)
-
 registers_count : (fs gs : List Function) → map (λ (f : Function). f.need) gs ≡ map (λ (f : Function). f.need) fs → length gs ≡ length fs
 registers_count fs gs e =
     sym (length-map {A = Function} gs (λ (f : Function). f.need)) ∙ ap (λ (ns : List ℕ). length ns) e ∙ length-map {A = Function} fs (λ (f : Function). f.need)
@@ -157,9 +146,9 @@ ready form registers added force cuts places placing recut uncut_names force_nam
       named = recut_names p.tags max_gap p.placed code p.recut (place_names p.forced p.placed p.place.placed (force_names p.forwarded p.forced p.force (uncut_names p.forwarded (registers.uncut p.lowered p.forwarded p.registers p.uncut))));
       fits = All-weaker (λ (f : Function). IsPlacedFunction (length code.statics.items) f) (λ (f : Function). bytes_of f ≤ f.need) (λ f h. h.fits) code.functions.items placed.functions;
       room = subst (λ n. n ≤ statics_capacity) (sym bytes) s.within.statics;
-      count = same_count p.placed.functions.items code.functions.items same.functions
-          ∙ placed_count p.forced.functions.items p.placed.functions.items p.place.placed.functions
-          ∙ same_count p.forwarded.functions.items p.forced.functions.items same_forced.functions
+      count = zip_length SameFunction p.placed.functions.items code.functions.items same.functions
+          ∙ zip_length PlacedFunction p.forced.functions.items p.placed.functions.items p.place.placed.functions
+          ∙ zip_length SameFunction p.forwarded.functions.items p.forced.functions.items same_forced.functions
           ∙ registers_count p.lowered.functions.items p.forwarded.functions.items (registers.needs p.lowered p.forwarded p.registers)
           ∙ p.lower.count ∙ length-map {A = Func} prog.funcs.items (func_of prog.types);
     }

@@ -31,7 +31,8 @@ use Rattle.im_block.specs.Runs.{Runs}
 use Rattle.im_block.specs.Sections.{NoWar, items}
 use Rattle.im_block.specs.Tagged.{AllHold}
 use Rattle.im_block.specs.Shape.{AllOrdered, sum_of, total, function_cost, placed_cost}
-use Rattle.im_block.specs.Uncut.{SameButCuts}
+use Rattle.im_block.specs.Uncut.{SameFunction, SameButCuts}
+use Rattle.im_block.proofs.Unitwise.{zip_sum}
 use Rattle.im_block.specs.Wellformed.{IsWellFormed}
 use Rattle.im_block.specs.Laws.{EachLineLaw, AddedCutsLaw, SectionLaw}
 use Rattle.im_block_laws.specs.Laws.{CutsKeepCodeLaw}
@@ -51,7 +52,7 @@ use Rattle.im_keeps_passes.specs.Machine.{powered, stores_before, ShowsAfter}
 use Rattle.im_keeps_passes.specs.Passes.{needs_of, setting, IsSelectable, Passes}
 use Rattle.im_keeps_passes.specs.Laws.{meaning_of, KeepsUninterrupted, ReachesUninterrupted, Survives, PassesKeep}
 use Rattle.im_keeps_passes.proofs.Events.{still_hold}
-use Rattle.im_keeps_passes.proofs.Bounds.{few_enough, soon_enough, sums_same}
+use Rattle.im_keeps_passes.proofs.Bounds.{few_enough, soon_enough}
 use Rattle.im_keeps_passes.proofs.Commits.{flips_stored}
 use Rattle.im_keeps_passes.proofs.Units.{statics_kept, needs_kept, frames_fit}
 use Rattle.im_keeps_passes.proofs.Steady.{Shows_at, shows_at}
@@ -137,10 +138,10 @@ module _ (laws : Laws) (source : Source) (frames : List ℕ) (image : ImageValue
   }
 
   cost_same : (old new : Code) → SameButCuts old new → sum_of function_cost new.functions.items ≡ sum_of function_cost old.functions.items
-  cost_same old new same = sums_same function_cost (λ f g s. (laws.code.costs f g s).cost) old.functions.items new.functions.items same.functions
+  cost_same old new same = zip_sum SameFunction function_cost (λ f g s. (laws.code.costs f g s).cost) old.functions.items new.functions.items same.functions
 
   placed_same : (old new : Code) → SameButCuts old new → sum_of placed_cost new.functions.items ≡ sum_of placed_cost old.functions.items
-  placed_same old new same = sums_same placed_cost (λ f g s. (laws.code.costs f g s).placed) old.functions.items new.functions.items same.functions
+  placed_same old new same = zip_sum SameFunction placed_cost (λ f g s. (laws.code.costs f g s).placed) old.functions.items new.functions.items same.functions
 
   small : 4 * length image.words ≤ 4096 + 256 * source.nodes
   small =

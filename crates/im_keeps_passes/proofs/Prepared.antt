@@ -6,7 +6,8 @@ use Rattle.im_block.specs.declared.unit.Static.{Static as StaticOf}
 use Rattle.im_block.specs.declared.unit.Unit.{Unit as Code}
 use Rattle.im_block.specs.Meaning.{static_of, statics_of}
 use Rattle.im_block.specs.Shape.{sum_of, function_cost, placed_cost}
-use Rattle.im_block.specs.Uncut.{SameButCuts}
+use Rattle.im_block.specs.Uncut.{SameFunction, SameButCuts}
+use Rattle.im_block.proofs.Unitwise.{zip_sum, all_at}
 use Rattle.im_block_laws.specs.Laws.{CutsKeepCodeLaw}
 use Rattle.im_alloc_placed.specs.Placeable.{IsPlaceable}
 use Rattle.im_alloc_placed.specs.Placed.{frame_bytes, IsPlacedFunction, IsPlacedCode}
@@ -15,8 +16,7 @@ use Rattle.im_force.specs.Laws.{ForceKeepsLaw}
 use Rattle.im_keeps_passes.specs.Source.{Source}
 use Rattle.im_keeps_passes.specs.Passes.{needs_of, Prepares}
 use Rattle.im_keeps_passes.specs.Laws.{CodeBounds, CodeBoundsLaw}
-use Rattle.im_keeps_passes.proofs.Bounds.{sums_same}
-use Rattle.im_keeps_passes.proofs.Units.{all_at, statics_kept, needs_kept}
+use Rattle.im_keeps_passes.proofs.Units.{statics_kept, needs_kept}
 
 need_at : (fs : List Function) (i need : ℕ) (f : Function) → slice_get (map (λ (g : Function). g.need) fs) i ≡ Some need → slice_get fs i ≡ Some f → f.need ≡ need
 need_at [] i need f n e = let bad : None ≡ Some f = e in cc
@@ -45,10 +45,10 @@ module _ (keep : CutsKeepCodeLaw) (places : CutsKeepPlacesLaw) (force : ForceKee
       statics_kept p.placed code p.recut.same ∙ ap (λ (l : List StaticOf). map static_of l) p.place.statics ∙ statics_kept p.forced p.trimmed p.cut.same ∙ statics_kept p.lowered p.forced forced_same ∙ p.lower.statics
 
   cost_same : (old new : Code) → SameButCuts old new → sum_of function_cost new.functions.items ≡ sum_of function_cost old.functions.items
-  cost_same old new same = sums_same function_cost (λ f g s. (keep.costs f g s).cost) old.functions.items new.functions.items same.functions
+  cost_same old new same = zip_sum SameFunction function_cost (λ f g s. (keep.costs f g s).cost) old.functions.items new.functions.items same.functions
 
   placed_same : (old new : Code) → SameButCuts old new → sum_of placed_cost new.functions.items ≡ sum_of placed_cost old.functions.items
-  placed_same old new same = sums_same placed_cost (λ f g s. (keep.costs f g s).placed) old.functions.items new.functions.items same.functions
+  placed_same old new same = zip_sum SameFunction placed_cost (λ f g s. (keep.costs f g s).placed) old.functions.items new.functions.items same.functions
 
   cost : sum_of placed_cost code.functions.items ≤ 64 * source.nodes
   cost =

@@ -1,12 +1,13 @@
 -- Each relation keeps its line.
-use Rattle.std.proofs.Common.{◌≡◌, ℕ, List, [], ◌∷◌, Option, map, refl, ap, ◌∙◌, arith}
+use Rattle.std.proofs.Common.{ℕ, List, [], ◌∷◌, Option, refl, ap, ◌∙◌, arith}
 use Rattle.im_block.specs.declared.access.Tags.{Tags}
 use Rattle.im_block.specs.declared.code.Line.{Line}
 use Rattle.im_block.specs.declared.code.Block.{Block}
 use Rattle.im_block.specs.declared.unit.Function.{Function}
 use Rattle.im_block.specs.declared.unit.Unit.{Unit as Code}
-use Rattle.im_block.specs.Uncut.{WithCuts, Empty, Same, SameBlocks, SameFunctions, SameButCuts}
-use Rattle.im_alloc_relation.specs.Placing.{PlacedFunctions}
+use Rattle.im_block.specs.Uncut.{WithCuts, Empty, Same, SameBlock, SameFunction, SameButCuts}
+use Rattle.im_block.proofs.Unitwise.{zip_same, zip_map}
+use Rattle.im_alloc_relation.specs.Placing.{PlacedFunction}
 use Rattle.im_alloc_laws.specs.Numbered.{IsWellPlaced}
 use Rattle.im_alloc_laws.specs.Laws.{PlacedCodeLaw}
 use Rattle.im_registers.specs.Registers.{InRegisters}
@@ -24,16 +25,11 @@ lines_same : (lines : List Line) → WithCuts lines lines
 lines_same [] = Empty
 lines_same (line ∷ lines) = Same line lines lines (lines_same lines)
 
-blocks_same : (blocks : List Block) → SameBlocks blocks blocks
-blocks_same [] = tt
-blocks_same (b ∷ bs) = (record { lines = lines_same b.lines.items; exit = refl }, blocks_same bs)
-
-functions_same : (fs : List Function) → SameFunctions fs fs
-functions_same [] = tt
-functions_same (f ∷ fs) = (record { blocks = blocks_same f.blocks.items; rest = refl }, functions_same fs)
+function_same : (f : Function) → SameFunction f f
+function_same f = record { blocks = zip_same SameBlock (λ (b : Block). record { lines = lines_same b.lines.items; exit = refl }) f.blocks.items; rest = refl }
 
 uncut_same : (u : Code) → SameButCuts u u
-uncut_same u = record { functions = functions_same u.functions.items; rest = refl }
+uncut_same u = record { functions = zip_same SameFunction function_same u.functions.items; rest = refl }
 
 cut : (u : Code) → Cuts u u
 cut u = record { same = uncut_same u; apart = λ h. h }
@@ -54,18 +50,11 @@ registers law source lowered forwarded l r = record {
 
 -- places
 
-needs_same : (fs gs : List Function) → PlacedFunctions fs gs → map (λ (f : Function). f.need) gs ≡ map (λ (f : Function). f.need) fs
-needs_same [] [] h = refl
-needs_same [] (g ∷ gs) h = absurd h
-needs_same (f ∷ fs) [] h = absurd h
-needs_same (f ∷ fs) (g ∷ gs) h =
-    ap (λ n. n ∷ map (λ (k : Function). k.need) gs) (ap (λ (k : Function). k.need) h.0.rest) ∙ ap (λ ns. f.need ∷ ns) (needs_same fs gs h.1)
-
 place : PlacedCodeLaw → (u v : Code) → IsWellPlaced u v → Places u v
 place law u v w = record {
   runs = λ well. law.runs u v well w.placed;
   statics = ap (λ (k : Code). k.statics.items) w.placed.rest;
-  needs = needs_same u.functions.items v.functions.items w.placed.functions;
+  needs = zip_map PlacedFunction (λ (f : Function). f.need) (λ f g k. ap (λ (z : Function). z.need) k.rest) u.functions.items v.functions.items w.placed.functions;
   ordered = law.ordered u v w.placed;
   forced = law.forced u v w.placed;
   apart = law.apart u v w.placed;
