@@ -122,10 +122,10 @@ pub selected_in : (w : Lines) (given : Given) (k m : ℕ) → IsEntry m → Agre
 selected_in w given k m o g (Put to z) h c s a = Numbers to z _ h (constant_in w k to (word z) (word_small z) a)
 selected_in w given k m o g (PutNull to) h c s a = Nulls to h a.0
 selected_in w given k m o g (Copy to from) h c s a = Copies to from _ h.0 h.1 (copied_in w k to from a)
-selected_in w given k m o g (Convert to I8 from) h c s a = Converts to I8 from _ h.0 h.1 (Narrowed (λ e. cc) (λ e. cc) (λ e. cc) a.0 a.1.0)
+selected_in w given k m o g (Convert to I8 from) h c s a = Converts to I8 from _ h.0 h.1 (Narrowed (omega arith) a.0 a.1.0)
 selected_in w given k m o g (Convert to U8 from) h c s a = Converts to U8 from _ h.0 h.1 (Masked refl a.0)
-selected_in w given k m o g (Convert to I16 from) h c s a = Converts to I16 from _ h.0 h.1 (Narrowed (λ e. cc) (λ e. cc) (λ e. cc) a.0 a.1.0)
-selected_in w given k m o g (Convert to U16 from) h c s a = Converts to U16 from _ h.0 h.1 (Narrowed (λ e. cc) (λ e. cc) (λ e. cc) a.0 a.1.0)
+selected_in w given k m o g (Convert to I16 from) h c s a = Converts to I16 from _ h.0 h.1 (Narrowed (omega arith) a.0 a.1.0)
+selected_in w given k m o g (Convert to U16 from) h c s a = Converts to U16 from _ h.0 h.1 (Narrowed (omega arith) a.0 a.1.0)
 selected_in w given k m o g (Convert to I32 from) h c s a = Converts to I32 from _ h.0 h.1 (Whole _ (inl refl) (copied_in w k to from a))
 selected_in w given k m o g (Convert to U32 from) h c s a = Converts to U32 from _ h.0 h.1 (Whole _ (inr refl) (copied_in w k to from a))
 selected_in w given k m o g (Convert to Ptr from) h c s a = absurd (h.2 refl)

@@ -133,13 +133,13 @@ gave_converted p m pc x to k from next z some is small fixed (Masked byte h) =
     subst (λ b. Gave m pc x to (word (wrap k z)) (pc + 4) (cond (b && to == from) 0 2)) (sym size)
     (gave_weak m pc x to (word (wrap k z)) (pc + 4) 1 2 (omega arith) (gave_one p.image m pc x (with_immediate Andi to from 255) (word (wrap k z)) some fixed h
     (ap (λ q. Puts (bit_and q 255) (sum_of pc 4)) is ∙ ap (λ q. Puts q (sum_of pc 4)) (byte_kept z ∙ ap (λ q. word (wrap q z)) (sym byte))) refl))
-gave_converted p m pc x to I8 from next z some is small fixed (Narrowed a b c h g) = two_shifts p m pc x to I8 from (word (wrap I8 z)) some fixed h g (ap (λ q. Puts (shift_right_signed (shift_left q 24) 24) (sum_of (pc + 4) 4)) is ∙ ap (λ q. Puts q (sum_of (pc + 4) 4)) (narrowed_i8 z)) (ap (λ q. Puts (shift_right_signed q 24) (sum_of (pc + 4) 4)) (same_reg x to (shift_left (x from) 24) some))
-gave_converted p m pc x to U8 from next z some is small fixed (Narrowed a b c h g) = two_shifts p m pc x to U8 from (word (wrap U8 z)) some fixed h g (ap (λ q. Puts (shift_right (shift_left q 24) 24) (sum_of (pc + 4) 4)) is ∙ ap (λ q. Puts q (sum_of (pc + 4) 4)) (narrowed_u8 z)) (ap (λ q. Puts (shift_right q 24) (sum_of (pc + 4) 4)) (same_reg x to (shift_left (x from) 24) some))
-gave_converted p m pc x to I16 from next z some is small fixed (Narrowed a b c h g) = two_shifts p m pc x to I16 from (word (wrap I16 z)) some fixed h g (ap (λ q. Puts (shift_right_signed (shift_left q 16) 16) (sum_of (pc + 4) 4)) is ∙ ap (λ q. Puts q (sum_of (pc + 4) 4)) (narrowed_i16 z)) (ap (λ q. Puts (shift_right_signed q 16) (sum_of (pc + 4) 4)) (same_reg x to (shift_left (x from) 16) some))
-gave_converted p m pc x to U16 from next z some is small fixed (Narrowed a b c h g) = two_shifts p m pc x to U16 from (word (wrap U16 z)) some fixed h g (ap (λ q. Puts (shift_right (shift_left q 16) 16) (sum_of (pc + 4) 4)) is ∙ ap (λ q. Puts q (sum_of (pc + 4) 4)) (narrowed_u16 z)) (ap (λ q. Puts (shift_right q 16) (sum_of (pc + 4) 4)) (same_reg x to (shift_left (x from) 16) some))
-gave_converted p m pc x to I32 from next z some is small fixed (Narrowed a b c h g) = absurd (a refl)
-gave_converted p m pc x to U32 from next z some is small fixed (Narrowed a b c h g) = absurd (b refl)
-gave_converted p m pc x to Ptr from next z some is small fixed (Narrowed a b c h g) = absurd (c refl)
+gave_converted p m pc x to I8 from next z some is small fixed (Narrowed few h g) = two_shifts p m pc x to I8 from (word (wrap I8 z)) some fixed h g (ap (λ q. Puts (shift_right_signed (shift_left q 24) 24) (sum_of (pc + 4) 4)) is ∙ ap (λ q. Puts q (sum_of (pc + 4) 4)) (narrowed_i8 z)) (ap (λ q. Puts (shift_right_signed q 24) (sum_of (pc + 4) 4)) (same_reg x to (shift_left (x from) 24) some))
+gave_converted p m pc x to U8 from next z some is small fixed (Narrowed few h g) = two_shifts p m pc x to U8 from (word (wrap U8 z)) some fixed h g (ap (λ q. Puts (shift_right (shift_left q 24) 24) (sum_of (pc + 4) 4)) is ∙ ap (λ q. Puts q (sum_of (pc + 4) 4)) (narrowed_u8 z)) (ap (λ q. Puts (shift_right q 24) (sum_of (pc + 4) 4)) (same_reg x to (shift_left (x from) 24) some))
+gave_converted p m pc x to I16 from next z some is small fixed (Narrowed few h g) = two_shifts p m pc x to I16 from (word (wrap I16 z)) some fixed h g (ap (λ q. Puts (shift_right_signed (shift_left q 16) 16) (sum_of (pc + 4) 4)) is ∙ ap (λ q. Puts q (sum_of (pc + 4) 4)) (narrowed_i16 z)) (ap (λ q. Puts (shift_right_signed q 16) (sum_of (pc + 4) 4)) (same_reg x to (shift_left (x from) 16) some))
+gave_converted p m pc x to U16 from next z some is small fixed (Narrowed few h g) = two_shifts p m pc x to U16 from (word (wrap U16 z)) some fixed h g (ap (λ q. Puts (shift_right (shift_left q 16) 16) (sum_of (pc + 4) 4)) is ∙ ap (λ q. Puts q (sum_of (pc + 4) 4)) (narrowed_u16 z)) (ap (λ q. Puts (shift_right q 16) (sum_of (pc + 4) 4)) (same_reg x to (shift_left (x from) 16) some))
+gave_converted p m pc x to I32 from next z some is small fixed (Narrowed few h g) = absurd (omega arith)
+gave_converted p m pc x to U32 from next z some is small fixed (Narrowed few h g) = absurd (omega arith)
+gave_converted p m pc x to Ptr from next z some is small fixed (Narrowed few h g) = absurd (omega arith)
 
 -- a pointer moved: the size times the count, added or taken away
 abbrev pub moved_sum : Bool → ℕ → ℕ → ℕ

@@ -70,7 +70,7 @@ copied p i w place starts l k to from next (Moved ne a) = linked.Moved ne (plain
 converted : (p : Linking) (i : ℕ) (w : Lines) (place starts : ℕ → ℕ) → IsLaid p i w place starts → (k to : ℕ) (kind : Kind) (from next : ℕ) → ConvertedIn w k to kind from next → Converted p (spot_of (p.entry i) k) to kind from (spot_of (p.entry i) next)
 converted p i w place starts l k to kind from next (Whole next' h c) = linked.Whole (spot_of (p.entry i) next') h (copied p i w place starts l k to from next' c)
 converted p i w place starts l k to kind from next (Masked h a) = linked.Masked h (plain p i w place starts l k _ None None a)
-converted p i w place starts l k to kind from next (Narrowed x y z a b) = linked.Narrowed x y z (plain p i w place starts l k _ None None a) (plain p i w place starts l (suc k) _ None None b)
+converted p i w place starts l k to kind from next (Narrowed x a b) = linked.Narrowed x (plain p i w place starts l k _ None None a) (plain p i w place starts l (suc k) _ None None b)
 
 scaled : (p : Linking) (i : ℕ) (w : Lines) (place starts : ℕ → ℕ) → IsLaid p i w place starts → (k size by register next : ℕ) → ScaledIn w k size by register next → Scaled p (spot_of (p.entry i) k) size by register (spot_of (p.entry i) next)
 scaled p i w place starts l k size by register next (Bytes e) = linked.Bytes e

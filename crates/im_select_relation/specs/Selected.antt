@@ -1,9 +1,9 @@
 -- What stands in memory for lines, exits and entries, as instructions.
-use Rattle.std.specs.Prelude.{◌≡◌, ◌≢◌, ◌<◌, ◌⊎◌, ℕ, ◌+◌, ◌-◌, ◌*◌, ◌^◌, ℤ, Bool, false, if◌then◌else◌, List, [], ◌∷◌, Option, Some, None}
+use Rattle.std.specs.Prelude.{◌≡◌, ◌≢◌, ◌<◌, ◌⊎◌, ℕ, ◌+◌, ◌-◌, ◌^◌, ℤ, Bool, false, if◌then◌else◌, List, [], ◌∷◌, Option, Some, None}
 use Rattle.im_num.specs.declared.kind.Kind.{Kind}
-use Rattle.im_num.specs.declared.kind.Kind.TheVariants.{U8, I32, U32, Ptr}
+use Rattle.im_num.specs.declared.kind.Kind.TheVariants.{U8, Ptr}
 use Rattle.im_num.specs.declared.values.Cause.{Cause}
-use Rattle.im_num.specs.Kinds.{kind_size, word}
+use Rattle.im_num.specs.Kinds.{bits, word}
 use Rattle.im_mem.specs.Map.{stack_lim_at}
 use Rattle.im_rv.specs.declared.instr.Op.{Op}
 use Rattle.im_rv.specs.declared.instr.Op.TheVariants.{Jalr, Beq, Bne, Blt, Bge, Bltu, Bgeu, Lw, Sw, Addi, Sltiu, Xori, Ori, Andi, Slli, Srli, Srai, Add as AddOp, Sub, Sltu, Mul, Div}
@@ -67,7 +67,7 @@ pub data Compared (p : Linking) (pc to : ℕ) (less : Op) (left right : ℕ) : C
 
 -- how far a narrow value is shifted up, and down again
 abbrev pub unused_bits : Kind → ℕ
-unused_bits kind = 32 - 8 * kind_size kind
+unused_bits kind = 32 - bits kind
 
 -- from pc to next, a register copied to another, or to itself by no instruction
 pub data Copied (p : Linking) (pc to from : ℕ) : ℕ → Type 0 where
@@ -78,7 +78,7 @@ pub data Copied (p : Linking) (pc to from : ℕ) : ℕ → Type 0 where
 pub data Converted (p : Linking) (pc to : ℕ) (kind : Kind) (from : ℕ) : ℕ → Type 0 where
   Whole : (next : ℕ) → IsPromoted kind → Copied p pc to from next → Converted p pc to kind from next
   Masked : kind ≡ U8 → Holds p.image pc (with_immediate Andi to from 255) → Converted p pc to kind from (pc + 4)
-  Narrowed : kind ≢ I32 → kind ≢ U32 → kind ≢ Ptr → Holds p.image pc (with_immediate Slli to from (unused_bits kind)) → Holds p.image (pc + 4) (with_immediate (by_sign kind Srai Srli) to to (unused_bits kind)) → Converted p pc to kind from (pc + 4 + 4)
+  Narrowed : bits kind < 32 → Holds p.image pc (with_immediate Slli to from (unused_bits kind)) → Holds p.image (pc + 4) (with_immediate (by_sign kind Srai Srli) to to (unused_bits kind)) → Converted p pc to kind from (pc + 4 + 4)
 
 -- from pc to next, lines after which a register has so many times `by`: that itself, or x5
 pub data Scaled (p : Linking) (pc size by : ℕ) : ℕ → ℕ → Type 0 where  -- register, next

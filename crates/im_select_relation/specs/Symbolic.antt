@@ -1,9 +1,9 @@
 -- What selection gives: the same lines as instructions with labels, by their numbers in the list and with no address.
 use Rattle.std.specs.Prelude.{◌≡◌, ◌≢◌, ◌<◌, ◌≤◌, ◌⊎◌, ℕ, zero, suc, ◌+◌, ◌-◌, ◌%◌, ◌^◌, ℤ, Bool, if◌then◌else◌, List, [], ◌∷◌, Option, Some, None, slice_get}
 use Rattle.im_num.specs.declared.kind.Kind.{Kind}
-use Rattle.im_num.specs.declared.kind.Kind.TheVariants.{U8, I32, U32, Ptr}
+use Rattle.im_num.specs.declared.kind.Kind.TheVariants.{U8, Ptr}
 use Rattle.im_num.specs.declared.values.Cause.{Cause}
-use Rattle.im_num.specs.Kinds.{word}
+use Rattle.im_num.specs.Kinds.{bits, word}
 use Rattle.im_mem.specs.Map.{stack_lim_at}
 use Rattle.im_rv.specs.declared.instr.Op.{Op}
 use Rattle.im_rv.specs.declared.instr.Op.TheVariants.{Jalr, Bltu, Bgeu, Lw, Sw, Addi, Sltiu, Xori, Andi, Slli, Srli, Srai, Add as AddOp, Sub, Sltu, Mul, Div}
@@ -100,7 +100,7 @@ pub data CopiedIn (w : Lines) (k to from : ℕ) : ℕ → Type 0 where
 pub data ConvertedIn (w : Lines) (k to : ℕ) (kind : Kind) (from : ℕ) : ℕ → Type 0 where
   Whole : (next : ℕ) → IsPromoted kind → CopiedIn w k to from next → ConvertedIn w k to kind from next
   Masked : kind ≡ U8 → Plain w k (with_immediate Andi to from 255) → ConvertedIn w k to kind from (suc k)
-  Narrowed : kind ≢ I32 → kind ≢ U32 → kind ≢ Ptr → Plain w k (with_immediate Slli to from (unused_bits kind)) → Plain w (suc k) (with_immediate (by_sign kind Srai Srli) to to (unused_bits kind)) → ConvertedIn w k to kind from (suc (suc k))
+  Narrowed : bits kind < 32 → Plain w k (with_immediate Slli to from (unused_bits kind)) → Plain w (suc k) (with_immediate (by_sign kind Srai Srli) to to (unused_bits kind)) → ConvertedIn w k to kind from (suc (suc k))
 
 -- from k to next, lines after which a register has so many times `by`: that itself, or x5
 pub data ScaledIn (w : Lines) (k size by : ℕ) : ℕ → ℕ → Type 0 where  -- register, next
