@@ -17,13 +17,14 @@ use Rattle.im_block.specs.Meaning.{Site, Spot, at_block}
 use Rattle.im_block.specs.Paths.{Step, WriteStep, steps_of, IsCut, IsEdge, spot, Path, Here, Along, Across, IsEntry, AfterCut, Begins}
 use Rattle.im_block.specs.Shape.{Descends, IsOrdered, with_cut}
 use Rattle.im_block.specs.Forced.{CutAtTurn}
-use Rattle.im_block.specs.Uncut.{WithCuts, Empty as NoLines, Same as SameLine, Added as AddedCut, SameFunction}
+use Rattle.im_block.specs.Uncut.{WithCuts, Empty as NoLines, Same as SameLine, Added as AddedCut, SameFunction, SameBlock}
 use Rattle.im_cut.specs.Greedy.{cause_of, causes_of_blocks, BehindCut, IsDue, CutLines, Empty, Same, Added, CutBlocks, CutsTo}
 use Rattle.im_cut_gap.specs.Costs.{leave_cost, CostPath}
 use Rattle.im_cut_gap.specs.Costs as costs
 use Rattle.im_cut_gap.specs.Remaining.{LiesOn}
 use Rattle.im_cut_gap.proofs.Costs.{some_same}
-use Rattle.im_cut_gap.proofs.Further.{twin, follows}
+use Rattle.im_block.proofs.Unitwise.{zip_old}
+use Rattle.im_cut_gap.proofs.Further.{follows}
 use Rattle.im_cut_gap.proofs.Remaining.{turn_rest, turn_suffix}
 
 -- ---- where a path comes to
@@ -205,12 +206,12 @@ module _ (tags : Tags) (old new : Function) (added : List Dep) (same : SameFunct
 
   entry_lies : (s : Spot) → IsEntry new s → LiesOn old s
   entry_lies s e =
-      let t = twin old.blocks.items new.blocks.items new.entry e.block same.blocks e.at in
+      let t = zip_old SameBlock old.blocks.items new.blocks.items new.entry e.block same.blocks e.at in
       let entry : new.entry ≡ old.entry = ap (λ (g : Function). g.entry) same.rest in
-      let at : slice_get old.blocks.items old.entry ≡ Some t.block = subst (λ (n : ℕ). slice_get old.blocks.items n ≡ Some t.block) entry t.at in
-      let is : spot new.entry t.block.lines.items e.block.exit ≡ at_block old.entry t.block =
-      ap (λ (n : ℕ). spot n t.block.lines.items e.block.exit) entry ∙ ap (λ (x : Exit). spot old.entry t.block.lines.items x) t.same.exit in
-      subst (LiesOn old) (sym e.is) (at_start (at_block new.entry e.block) t.block.lines.items (inl (record { block = t.block; at = at; is = is })) t.same.lines)
+      let at : slice_get old.blocks.items old.entry ≡ Some t.old = subst (λ (n : ℕ). slice_get old.blocks.items n ≡ Some t.old) entry t.at in
+      let is : spot new.entry t.old.lines.items e.block.exit ≡ at_block old.entry t.old =
+      ap (λ (n : ℕ). spot n t.old.lines.items e.block.exit) entry ∙ ap (λ (x : Exit). spot old.entry t.old.lines.items x) t.is.exit in
+      subst (LiesOn old) (sym e.is) (at_start (at_block new.entry e.block) t.old.lines.items (inl (record { block = t.old; at = at; is = is })) t.is.lines)
 
   -- behind a cut that was added
   record AddedAt (s : Spot) : Type 0 where

@@ -11,9 +11,8 @@ use Rattle.im_block.specs.Paths.{IsCut}
 use Rattle.im_block.specs.Shape.{Descends, IsOrdered}
 use Rattle.im_block.specs.Forced.{EndsWithCut, CutAtTurn}
 use Rattle.im_block.specs.Uncut.{WithCuts, Empty, Same, Added, SameBlock, SameFunction}
-use Rattle.im_block.proofs.Unitwise.{zip_same, zip_then}
+use Rattle.im_block.proofs.Unitwise.{zip_same, zip_then, zip_old}
 use Rattle.im_cut_gap.specs.Laws.{GapSameLaw}
-use Rattle.im_cut_gap.proofs.Further.{twin}
 use Rattle.im_recut.specs.Recut.{cost_limit, GapsTo}
 
 -- no further cuts
@@ -85,11 +84,11 @@ module _ (old new : Function) (same : SameFunction old new) where
   pub ordered : IsOrdered old.blocks.items → IsOrdered new.blocks.items
   ordered h = record {
     each = λ b block at.
-        let t = twin old.blocks.items new.blocks.items b block same.blocks at in
-        subst (λ (e : Exit). Descends e b) (sym t.same.exit) (h.each b t.block t.at);
+        let t = zip_old SameBlock old.blocks.items new.blocks.items b block same.blocks at in
+        subst (λ (e : Exit). Descends e b) (sym t.is.exit) (h.each b t.old t.at);
   }
 
   pub turns : ((b : ℕ) (block : Block) → slice_get old.blocks.items b ≡ Some block → CutAtTurn block.exit block.lines.items) → (b : ℕ) (block : Block) → slice_get new.blocks.items b ≡ Some block → CutAtTurn block.exit block.lines.items
   turns h b block at =
-      let t = twin old.blocks.items new.blocks.items b block same.blocks at in
-      subst (λ (e : Exit). CutAtTurn e block.lines.items) (sym t.same.exit) (turn_kept t.block.exit t.block.lines.items block.lines.items t.same.lines (h b t.block t.at))
+      let t = zip_old SameBlock old.blocks.items new.blocks.items b block same.blocks at in
+      subst (λ (e : Exit). CutAtTurn e block.lines.items) (sym t.is.exit) (turn_kept t.old.exit t.old.lines.items block.lines.items t.is.lines (h b t.old t.at))
