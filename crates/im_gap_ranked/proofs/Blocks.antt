@@ -21,7 +21,7 @@ use Rattle.im_rtlib.specs.Routines.{service_label, stack_label}
 use Rattle.im_store.specs.Objects.{Name}
 use Rattle.im_serve.specs.declared.service.Service.{Service}
 use Rattle.im_block.specs.declared.code.Line.{Line}
-use Rattle.im_block.specs.declared.code.Line.TheVariants.{Cut, Call, Serve}
+use Rattle.im_block.specs.declared.code.Line.TheVariants.{Compare, Cut, Call, Serve}
 use Rattle.im_block.specs.declared.code.Exit.{Exit}
 use Rattle.im_block.specs.declared.code.Exit.TheVariants.{Jump, Turn, Branch, Return}
 use Rattle.im_block.specs.declared.code.Block.{Block}
@@ -40,7 +40,7 @@ use Rattle.im_select.specs.Places.{CallsBelow}
 use Rattle.im_select.proofs.Following.{LeadsOn, lead_path, lead_below, lead_entry, led_there, kept_first}
 use Rattle.im_select.proofs.Counting.{way_few}
 use Rattle.im_select.proofs.Services.{service_high}
-use Rattle.im_select.proofs.Taking.{IsTaken, Nothing, Comparing, takes, all_left}
+use Rattle.im_select.proofs.Taking.{IsTaken, Nothing, Comparing, Zeroing, zero_line, takes, all_left}
 use Rattle.im_saved_lines.specs.Laws.{laid}
 use Rattle.im_saved_lines.proofs.Scanning.{both, same_of, same_is, IsPlain}
 use Rattle.im_saved_lines.proofs.Plain.{adds_plain}
@@ -114,10 +114,12 @@ line_few places m passed before line uncut = let q = way_few places m passed bef
 tail_cost : (left : ℕ → ℕ) (live : ℕ → ℕ → Bool) (tail : List Line) (exit : Exit) (taken : Option Test) → IsTaken live tail exit taken → cost_on left [] exit ≤ cost_on left tail exit
 tail_cost left live tail exit taken (Nothing exit') = omega arith
 tail_cost left live tail exit taken (Comparing to op kind a b x y p q) = omega arith
+tail_cost left live tail exit taken (Zeroing line r to op kind a b x y zero p q s t) = zero_line (λ l. cost_on left [] (Branch to x y) ≤ cost_on left (l ∷ Compare to op kind a b ∷ []) (Branch to x y)) line r zero (λ z. omega arith) (omega arith)
 
 starts_left : (live : ℕ → ℕ → Bool) (lines tail : List Line) (exit : Exit) (taken : Option Test) → IsTaken live tail exit taken → StartsWithCut (lines ++ tail) → StartsWithCut lines
 starts_left live [] tail exit taken (Nothing exit') s = s
 starts_left live [] tail exit taken (Comparing to op kind a b x y p q) s = absurd s
+starts_left live [] tail exit taken (Zeroing line r to op kind a b x y zero p q v w) s = zero_line (λ l. StartsWithCut (l ∷ Compare to op kind a b ∷ []) → ⊥) line r zero (λ z n. n) (λ n. n) s
 starts_left live (line ∷ lines) tail exit taken t s = s
 
 calls_left : (live : ℕ → ℕ → Bool) (lines tail : List Line) (exit : Exit) (taken : Option Test) → IsTaken live tail exit taken → CutAfterCalls (lines ++ tail) → CutAfterCalls lines

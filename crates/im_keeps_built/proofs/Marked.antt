@@ -36,7 +36,7 @@ use Rattle.im_select.specs.Leads.{led}
 use Rattle.im_select.specs.declared.branching.Test.{Test}
 use Rattle.im_select.specs.declared.distance.Distance.{Distance as Reach}
 use Rattle.im_select.specs.declared.distance.Distance.TheVariants.{Near, Far}
-use Rattle.im_select.specs.Emitted.{high_of, low_of, constant_by, constant_code, displaced_by, displaced_code, adds_by, adds_code, place_number, place_code, moved_code, copied_code, step_op, shift_of, shifts_code, scaled_code, based_code, address_code, computed_code, immediate_line, passed_by, by_or, way_code, line_code, lines_code, behind_each, onward_code, test_op, test_code, test_or, taken_test, own_lines, is_next, branch_code, exit_code, is_empty, result_code, leave_code, block_code, kept_order, Laying, leads_of, next_label, found_code, laid_block, laid_code, blocks_code, prologue_code, function_code, labelled, entry_label}
+use Rattle.im_select.specs.Emitted.{high_of, low_of, constant_by, constant_code, displaced_by, displaced_code, adds_by, adds_code, place_number, place_code, moved_code, copied_code, step_op, shift_of, shifts_code, scaled_code, based_code, address_code, computed_code, immediate_line, passed_by, by_or, stored_from, way_code, line_code, lines_code, behind_each, onward_code, test_op, test_code, test_or, taken_test, own_lines, is_next, branch_code, exit_code, is_empty, result_code, leave_code, block_code, kept_order, Laying, leads_of, next_label, found_code, laid_block, laid_code, blocks_code, prologue_code, function_code, labelled, entry_label}
 use Rattle.im_select.specs.Selects.{laying_of}
 use Rattle.im_link_laws.specs.Program.{HasCode, part_of, given_at, start_code, IsProgram}
 use Rattle.im_saved_lines.specs.Scan.{way}
@@ -198,6 +198,7 @@ way_marked at m passed (Some n) (Compute to op kind left right) = by (immediate_
     by : (o : Option Instruction) → immediate_line to op kind left n ≡ o → AreMarked (by_or (computed_code to op kind left right) o)
     by None e = line_marked at m (Compute to op kind left right)
     by (Some l) e = (unlinked l.op l.rd (immediate_way to op kind left n l e), tt)
+way_marked at m passed before (Write place kind from access) = line_marked at m (Write place kind (stored_from before from) access)
 way_marked at m passed before line = line_marked at m line
 
 lines_marked : (at : Name → ℕ) (m : ℕ → ℕ) (needed : ℕ → ℕ → Bool) (before : Option ℕ) (j : ℕ) (lines : List Line) → AreMarked (lines_code at m needed before j lines)

@@ -28,7 +28,7 @@ use Rattle.im_select_relation.proofs.Mapped.{Mark, marks, InFrames, Mapped, Cell
 use Rattle.im_select_relation.proofs.Checks.{write_place_fine, write_slot_fine}
 use Rattle.im_select_relation.proofs.Shapes.{Premises, function_cells, static_cells}
 use Rattle.im_select_relation.proofs.Relation.{SlotsShaped, Ordered, AllLinked}
-use Rattle.im_select_relation.proofs.Stood.{Stood, Shaded, Waits, Bears, Brings}
+use Rattle.im_select_relation.proofs.Stood.{Stood, Shaded, Waits, Bears, Zeroes, Brings}
 use Rattle.im_select_relation.proofs.Steps.{static_lies, stood_brings, begin_brings, over_is}
 
 -- n bytes from a on lie in the static of this number
@@ -80,6 +80,7 @@ here_of : (p : Linking) (u : Code) (g : Setting) (s : State) (c : Cpu) (m : Mem)
 here_of p u g s c m (Shaded s' c' m' registers alike r) = record { mapped = r.mapped; ordered = r.ordered; linked = r.linked; slots = r.slots; statics = r.statics }
 here_of p u g s c m (Waits s' c' m' w) = let r = w.rel in record { mapped = r.mapped; ordered = r.ordered; linked = r.linked; slots = r.slots; statics = r.statics }
 here_of p u g s c m (Bears s' c' m' w) = let r = w.rel in record { mapped = r.mapped; ordered = r.ordered; linked = r.linked; slots = r.slots; statics = r.statics }
+here_of p u g s c m (Zeroes s' c' m' w) = let r = w.rel in record { mapped = r.mapped; ordered = r.ordered; linked = r.linked; slots = r.slots; statics = r.statics }
 
 -- bytes of a live object
 live_held : (p : Linking) (u : Code) (g : Setting) (s : State) → Here p u g s → (o : Object) (sh : Shape) (i n : ℕ) → s.store.shape o ≡ Some sh → i + n ≤ sh.size → IsHeld p u g (address p o + i) n

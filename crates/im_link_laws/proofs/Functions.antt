@@ -26,9 +26,9 @@ use Rattle.im_block.specs.Meaning.{Setting, shapes_of, shape_at, slot_shape}
 use Rattle.im_alloc_placed.specs.Operands.{HasObject}
 use Rattle.im_select.specs.Leads.{lead}
 use Rattle.im_select_relation.specs.Linking.{Linking, frame_of}
-use Rattle.im_select_relation.specs.Selected.{Test, nonzero, comparing}
+use Rattle.im_select_relation.specs.Selected.{Test, nonzero, comparing, or_zero}
 use Rattle.im_select_relation.specs.Linked.{FunctionAt}
-use Rattle.im_select_relation.specs.Symbolic.{Lines, ContinuesIn, Falls, Leaps, TestedIn, Reached, Missed, Hopped, Skipped, ExitIn, JoinedIn, Decides, StandsIn, PrologueIn, IsSelected, IsLaid, spot_of, at_place}
+use Rattle.im_select_relation.specs.Symbolic.{Lines, ContinuesIn, Falls, Leaps, TestedIn, Reached, Missed, Hopped, Skipped, ExitIn, JoinedIn, Decides, DecidesByZero, StandsIn, PrologueIn, IsSelected, IsLaid, spot_of, at_place}
 use Rattle.im_select_relation.proofs.Lift.{lines, frame}
 use Rattle.im_select.specs.Emitted.{entry_label}
 use Rattle.im_select.specs.Selects.{Agrees, IsClosedBlock}
@@ -116,6 +116,7 @@ exit_same w s t count room k (Return from) same h a = a
 
 joined_same : (w : Lines) (blocks : List Block) (s t : ℕ → ℕ) (count k : ℕ) (line : Line) (lines : List Line) (exit : Exit) → ((b : ℕ) → b < count → s b ≡ t b) → ExitThere count exit → JoinedIn w blocks s k line lines exit → JoinedIn w blocks t k line lines exit
 joined_same w blocks s t count k line lines exit same h (Decides to op kind left right x y a b c d e f) = Decides to op kind left right x y a b c d e (tested_same w s t count k (comparing kind left right op) x y same h.0 h.1 f)
+joined_same w blocks s t count k line lines exit same h (DecidesByZero first r to op kind left right x y is a b c d e f i way) = DecidesByZero first r to op kind left right x y is a b c d e f i (tested_same w s t count k (comparing kind (or_zero r left) (or_zero r right) op) x y same h.0 h.1 way)
 
 stands_same : (w : Lines) (blocks : List Block) (s t : ℕ → ℕ) (count room k : ℕ) (lines : List Line) (exit : Exit) → ((b : ℕ) → b < count → s b ≡ t b) → ExitThere count exit → StandsIn w blocks s room k lines exit → StandsIn w blocks t room k lines exit
 stands_same w blocks s t count room k [] exit same h a = exit_same w s t count room k exit same h a

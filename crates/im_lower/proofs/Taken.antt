@@ -1,5 +1,5 @@
 -- One element more, where a list is built in the order of another.
-use Rattle.std.proofs.Common.{◌≡◌, ℕ, zero, suc, ◌+◌, ◌<◌, ◌≤◌, List, [], ◌∷◌, ◌++◌, map, take, drop, length, get_or, refl, sym, ap, ◌∙◌, subst, add-one, arith}
+use Rattle.std.proofs.Common.{◌≡◌, ℕ, zero, suc, ◌+◌, ◌<◌, ◌≤◌, List, [], ◌∷◌, ◌++◌, map, take, drop, length, get_or, refl, sym, ap, ◌∙◌, add-one, arith}
 use Rattle.im_typed.specs.Program.{LocalObject}
 use Rattle.im_block.specs.declared.unit.Object.{Object}
 use Rattle.im_lower_relation.specs.Lowered.{AreObjects}

@@ -4,7 +4,8 @@ ghost use Rattle.im_lower_plain.specs.Make.{make, make_place, make_test, part_of
 ghost use Rattle.im_lower.specs.MakeEach.{make_each};
 
 use crate::builder::{Builder, Targets, next};
-use crate::lines::{put_change, put_copy, put_increment, put_load, register_at, small};
+use crate::copies::{groups_in, put_copy};
+use crate::lines::{put_change, put_increment, put_load, register_at, small};
 use crate::operators::{put_operator, put_truths};
 use crate::places::{behind, changed_kind, place_at, shape_of};
 use im_block::{Exit, Line};
@@ -148,7 +149,9 @@ pub(crate) fn lower_expression(
             Access::Struct { number, .. } => {
                 let from = behind(place, free)?;
                 let cells = cells_of_struct(code.alloc(), *number, &prog.types)?;
-                put_copy(code, to, from, place_at(place, free, first)?, &cells)?;
+                let groups = groups_in(place, &cells, prog, first)?;
+                let at = place_at(place, free, first)?;
+                put_copy(code, to, from, at, groups, &cells)?;
                 lower_expression(code, value, from, next(from)?, prog, first)?;
                 lower_place(code, place, free, prog, first)
             }

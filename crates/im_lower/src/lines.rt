@@ -1,9 +1,9 @@
 ghost use Rattle.std.specs.Prelude.{◌≡◌, ◌+◌, IfOk, OnOk};
 ghost use Rattle.im_typed.specs.ProgramOf.{access_of};
 ghost use Rattle.im_ctype.specs.Table.{Table};
-ghost use Rattle.im_lower_plain.specs.Make.{put_change, put_copy, put_increment, put_load, put_reads, put_writes};
+ghost use Rattle.im_lower_plain.specs.Make.{put_change, put_increment, put_load, put_reads, put_writes};
 
-use crate::builder::{Builder, next, sum};
+use crate::builder::{Builder, sum};
 use crate::places::{changed_kind, further_in};
 use im_block::{Line, Place};
 use im_ctype::Cell;
@@ -61,23 +61,6 @@ pub(crate) fn put_writes(
         code.put_write(target, cell.kind, register_at(from, index)?)?;
     }
     Ok(())
-}
-
-/// Puts the copy of a struct from the place in the register `pointer`: all cells are read before
-/// the first is written. Its value is the address of the place.
-pub(crate) fn put_copy(
-    code: &mut Builder,
-    to: u32,
-    pointer: u32,
-    place: Place,
-    cells: &[Cell],
-) -> Result<(), NoMemory>
-    ensures { OnOk result (code.new ≡ put_copy to pointer place cells.now code.old) }
-{
-    let from = next(pointer)?;
-    code.put(Line::Address { to, place })?;
-    put_writes(code, place, from, cells)?;
-    put_reads(code, pointer, from, cells)
 }
 
 /// An offset in an object as a place has it.

@@ -18,8 +18,9 @@ use im_num::NoMemory;
 use im_typed::{Func, Prog};
 use std::alloc::Global;
 
-/// The block code of a program. Its time is linear in the program's size. A number of an object,
-/// a register, a block or an access that is too large for its type counts as want of memory.
+/// The block code of a program. Its time is linear in the program's size, but that each assignment
+/// of a struct to a local looks for the local among the objects of all functions. A number of an
+/// object, a register, a block or an access that is too large for its type counts as want of memory.
 pub fn lower(alloc: Global, prog: &Prog) -> Result<Unit, NoMemory>
     requires { KnowsTypes prog.now }
     ensures gives { IfOk result (λ unit. IsLowered (program_of prog.now) unit) }

@@ -19,14 +19,14 @@ use Rattle.im_typed.specs.Counts.{place_nodes, expr_nodes, exprs_nodes, conversi
 use Rattle.im_block.specs.declared.code.Place.{Place}
 use Rattle.im_block.specs.declared.code.Place.TheVariants.{Static, Local, Through}
 use Rattle.im_block.specs.declared.code.Exit.TheVariants.{Jump, Branch}
-use Rattle.im_lower_relation.specs.Codes.{further_in, cells_of_shape, offset_in, count_of}
+use Rattle.im_lower_relation.specs.Codes.{further_in, cells_of_shape, offset_in, count_of, is_whole}
 use Rattle.im_lower_relation.specs.Lowered.{HasParameters}
 use Rattle.im_lower_plain.specs.Made.{Made, put, close, start}
-use Rattle.im_lower_plain.specs.Make.{place_at, behind, part_offset, fails_made, holds_made, make_place, make, make_arguments, make_test}
+use Rattle.im_lower_plain.specs.Make.{place_at, behind, groups_in, part_offset, fails_made, holds_made, make_place, make, make_arguments, make_test}
 use Rattle.im_lower_plain.proofs.Growth.{stays, grows_start, close_length}
 use Rattle.im_lower_plain.proofs.Grown.{grows, decision_grows}
 use Rattle.im_lower_laws.proofs.Steps.{Step, at_most, step_close, step_start}
-use Rattle.im_lower_laws.proofs.LineSteps.{Good_register, GoodPlace, GoodChange, place_offset, further_good, through_good, adds_put, adds_null, adds_service, adds_convert, adds_unary, adds_not, adds_service_of, adds_compute, adds_compare, adds_move, adds_distance, adds_address, adds_call, adds_read, adds_write, adds_load, adds_reads, adds_writes, adds_change, adds_increment}
+use Rattle.im_lower_laws.proofs.LineSteps.{Good_register, GoodPlace, GoodChange, place_offset, further_good, through_good, adds_put, adds_null, adds_service, adds_convert, adds_unary, adds_not, adds_service_of, adds_compute, adds_compare, adds_move, adds_distance, adds_address, adds_call, adds_read, adds_write, adds_load, adds_groups, adds_change, adds_increment}
 
 pub nodes_positive : (e : p.Expr) → 1 ≤ expr_nodes e
 nodes_positive (p.Constant kind z) = omega arith
@@ -467,11 +467,11 @@ module _ (g : p.Prog) (f : p.Func) (code : Function) (first low limit : ℕ) (pr
         let here = offsets_are a free in
         let near = members_near a ty.1 in
         at_most g code low limit (c + 64 * (1 + count + place_nodes a + expr_nodes e)) t (omega arith) (omega arith)
-        (place_adds a (c + 12 + 12 * length cells + 12 * length cells + 64 * expr_nodes e) t m _ free ty.1 lf (omega arith)
-        (adds e ty.2 (c + 12 + 12 * length cells + 12 * length cells) t m _ from (from + 1) (omega arith) (omega arith) (omega arith) (omega arith)
-        (adds_reads g code low limit from (from + 1) cells (register from (omega arith) (omega arith)) (nearer 0 cells (omega arith) cells_near) (omega arith) (omega arith)
-        (adds_writes g code low limit (place_at first a free) (from + 1) cells good (nearer (place_offset (place_at first a free)) cells (omega arith) cells_near) (omega arith) (omega arith)
-        (adds_address g code low limit to (place_at first a free) (register to lt t1) good h)))))
+        (place_adds a (c + 12 + 24 * length cells + 64 * expr_nodes e) t m _ free ty.1 lf (omega arith)
+        (adds e ty.2 (c + 12 + 24 * length cells) t m _ from (from + 1) (omega arith) (omega arith) (omega arith) (omega arith)
+        (adds_groups g code low limit from (place_at first a free) (groups_in (is_whole g first a cells) cells) cells (register from (omega arith) (omega arith)) good
+        (nearer 0 cells (omega arith) cells_near) (nearer (place_offset (place_at first a free)) cells (omega arith) cells_near) (omega arith)
+        (adds_address g code low limit to (place_at first a free) (register to lt t1) good h))))
     adds (p.Update a change e) ty c t m n to free lt lf t1 le h =
         let lower = behind_low a free in
         let upper = behind_high a free in

@@ -1,5 +1,5 @@
 -- The lines that lowering puts, each with what it adds.
-use Rattle.std.proofs.Common.{◌≡◌, ◌≢◌, ◌⊎◌, ℕ, ◌+◌, ◌*◌, ◌^◌, ◌<◌, ◌≤◌, Bool, true, false, List, [], ◌∷◌, length, refl, arith}
+use Rattle.std.proofs.Common.{◌≡◌, ◌≢◌, ◌⊎◌, ℕ, zero, suc, ◌+◌, ◌*◌, ◌^◌, ◌<◌, ◌≤◌, Bool, true, false, List, [], ◌∷◌, length, take, drop, refl, arith}
 use Rattle.std.specs.Prelude.{slice_get, ℤ, pos, Some, None}
 use Rattle.im_num.specs.declared.kind.Kind.{Kind}
 use Rattle.im_num.specs.declared.kind.Kind.TheVariants.{I8, U8, I16, U16, I32, U32, Ptr}
@@ -23,7 +23,7 @@ use Rattle.im_typed.specs.Typing.{Each}
 use Rattle.im_lower_relation.specs.Codes.{further_in}
 use Rattle.im_lower_relation.specs.Lowered.{HasParameters}
 use Rattle.im_lower_plain.specs.Made.{Made, above_place, put, put_read, put_write}
-use Rattle.im_lower_plain.specs.Make.{put_load, put_reads, put_writes, put_change, changed_in, put_increment}
+use Rattle.im_lower_plain.specs.Make.{put_load, put_reads, put_writes, put_group, put_groups, put_change, changed_in, put_increment}
 use Rattle.im_lower_laws.proofs.Steps.{Step, at_most, step_put, step_access}
 
 narrow : (kind : Kind) → narrowing kind ≤ 2
@@ -194,6 +194,37 @@ module _ (g : p.Prog) (code : Function) (low limit : ℕ) where
       let here : Good_register low limit from = record { from = low_from; below = omega arith } in
       at_most g code low limit (c + 12 * length (cell ∷ cells)) t (omega arith) (omega arith)
       (adds_write (further_in place cell.offset) cell.kind from here (further_good place cell.offset near.0 s) (adds_writes place (from + 1) cells s near.1 next room h))
+
+  near-first : (k d : ℕ) (cells : List Cell) → Near d cells → Near d (take k cells)
+  near-first zero d cells h = tt
+  near-first (suc k) d [] h = tt
+  near-first (suc k) d (cell ∷ cells) h = (h.0, near-first k d cells h.1)
+
+  near-left : (k d : ℕ) (cells : List Cell) → Near d cells → Near d (drop k cells)
+  near-left zero d cells h = h
+  near-left (suc k) d [] h = tt
+  near-left (suc k) d (cell ∷ cells) h = near-left k d cells h.1
+
+  both-lengths : (k : ℕ) (cells : List Cell) → length (take k cells) + length (drop k cells) ≡ length cells
+  both-lengths zero cells = omega arith
+  both-lengths (suc k) [] = omega arith
+  both-lengths (suc k) (cell ∷ cells) = let rest = both-lengths k cells in omega arith
+
+  adds_group : {c t : ℕ} {m n : Made} (pointer : ℕ) (place : Place) (cells : List Cell) → R pointer → GoodPlace (length g.statics) code low limit place → Near 0 cells → Near (place_offset place) cells → pointer + 1 + length cells ≤ limit → Step g code low limit c t m n
+      → Step g code low limit (c + 24 * length cells) t m (put_group pointer place cells n)
+  adds_group {c} {t} pointer place cells r good near far le h =
+      let from = r.from in
+      at_most g code low limit (c + 24 * length cells) t (omega arith) (omega arith)
+      (adds_reads pointer (pointer + 1) cells r near (omega arith) le (adds_writes place (pointer + 1) cells good far (omega arith) le h))
+
+  pub adds_groups : {c t : ℕ} {m n : Made} (pointer : ℕ) (place : Place) (count : ℕ) (cells : List Cell) → R pointer → GoodPlace (length g.statics) code low limit place → Near 0 cells → Near (place_offset place) cells → pointer + 1 + length cells ≤ limit → Step g code low limit c t m n
+      → Step g code low limit (c + 24 * length cells) t m (put_groups pointer place count cells n)
+  adds_groups pointer place zero cells r good near far le h = adds_group pointer place cells r good near far le h
+  adds_groups {c} {t} pointer place (suc count) cells r good near far le h =
+      let both = both-lengths 8 cells in
+      at_most g code low limit (c + 24 * length cells) t (omega arith) (omega arith)
+      (adds_group pointer place (take 8 cells) r good (near-first 8 0 cells near) (near-first 8 (place_offset place) cells far) (omega arith)
+      (adds_groups pointer place count (drop 8 cells) r good (near-left 8 0 cells near) (near-left 8 (place_offset place) cells far) (omega arith) h))
 
   pub adds_change : {c t : ℕ} {m n : Made} (change : Change) (to old by : ℕ) (place : Place) → R to → R old → R by → GoodPlace (length g.statics) code low limit place → GoodChange change → Step g code low limit c t m n → Step g code low limit (c + 39) t m (put_change change to old by place n)
   adds_change {c} {t} (NumberBy kind op at) to old by place r s q good ok h =

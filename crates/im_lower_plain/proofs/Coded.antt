@@ -1,5 +1,5 @@
 -- What the body puts for an expression is what the relation asks.
-use Rattle.std.proofs.Common.{◌≡◌, ℕ, suc, ◌+◌, ◌≤◌, true, false, List, [], ◌∷◌, length, refl, ap, ◌∙◌, subst, add-one, arith}
+use Rattle.std.proofs.Common.{◌≡◌, ◌⊎◌, inl, inr, ℕ, zero, suc, ◌+◌, ◌≤◌, Bool, true, false, List, [], ◌∷◌, length, take, drop, refl, ap, ◌∙◌, subst, add-one, arith}
 use Rattle.std.specs.Prelude.{pos, Some}
 use Rattle.im_num.specs.declared.kind.Kind.TheVariants.{Ptr}
 use Rattle.im_ctype.specs.declared.cell.Cell.{Cell}
@@ -11,11 +11,11 @@ use Rattle.im_block.specs.declared.code.Line.{Line}
 use Rattle.im_block.specs.declared.code.Line.TheVariants.{Put, Convert, Unary, Not, Compute, Compare, Move, Distance, Address, Read, Write, Call, Serve}
 use Rattle.im_block.specs.declared.code.Exit.TheVariants.{Jump, Branch}
 use Rattle.im_block.specs.declared.code.Block.{Block}
-use Rattle.im_lower_relation.specs.Codes.{Point, before, ends, Begins, further_in, above, where_of, reads_of, writes_of, count_of, Codes, CodesPlace, CodesArguments, CodesTest}
+use Rattle.im_lower_relation.specs.Codes.{Point, before, ends, Begins, further_in, above, where_of, reads_of, writes_of, count_of, Codes, CodesPlace, CodesArguments, CodesGroup, CodesGroups, is_whole, CodesTest}
 use Rattle.im_lower_plain.specs.Made.{Made, put, put_read, put_write, close, start}
-use Rattle.im_lower_plain.specs.Make.{place_at, behind, put_reads, put_writes, put_change, put_increment, part_offset, fails_made, holds_made, make_place, make, make_arguments, make_test}
+use Rattle.im_lower_plain.specs.Make.{place_at, behind, put_reads, put_writes, put_group, put_groups, groups_in, put_change, put_increment, part_offset, fails_made, holds_made, make_place, make, make_arguments, make_test}
 use Rattle.im_lower_plain.proofs.Growth.{Grows, stays, grows_on, grows_put, grows_read, grows_write, grows_close, grows_start, Later, later_before, closed_begins}
-use Rattle.im_lower_plain.proofs.Grown.{place_grows, grows, arguments_grow, change_grows, reads_grow, writes_grow, fails_grow, holds_grow, decision_grows}
+use Rattle.im_lower_plain.proofs.Grown.{place_grows, grows, arguments_grow, change_grows, groups_grow, fails_grow, holds_grow, decision_grows}
 
 -- the numbers of the accesses of a copy
 
@@ -52,6 +52,24 @@ writes_point place from (c ∷ cs) m =
       count = ap suc rest.count;
       point = ap (λ q. before (Write (further_in place c.offset) c.kind from number) q) (rest.point ∙ ap (λ k. writes_of place k cs rest.numbers m.point) (add-one from));
     }
+
+-- a copy in groups
+
+pub group_coded : (pointer : ℕ) (place : Place) (cells : List Cell) (m : Made) → CodesGroup pointer place cells (put_group pointer place cells m).point m.point
+group_coded pointer place cells m =
+    let w = writes_point place (pointer + 1) cells m in
+    let r = reads_point pointer (pointer + 1) cells (put_writes place (pointer + 1) cells m) in
+    (r.numbers, w.numbers, r.count, w.count, r.point ∙ ap (λ q. reads_of pointer (pointer + 1) cells r.numbers q) w.point)
+
+groups_coded : (pointer : ℕ) (place : Place) (n : ℕ) (cells : List Cell) (m : Made) → CodesGroups pointer place n cells (put_groups pointer place n cells m).point m.point
+groups_coded pointer place zero cells m = group_coded pointer place cells m
+groups_coded pointer place (suc n) cells m =
+    let rest = put_groups pointer place n (drop 8 cells) m in
+    (rest.point, group_coded pointer place (take 8 cells) rest, groups_coded pointer place n (drop 8 cells) m)
+
+groups_allowed : (whole : Bool) (cells : List Cell) → (groups_in whole cells ≡ 0) ⊎ (whole ≡ true)
+groups_allowed false cells = inl refl
+groups_allowed true cells = inr refl
 
 pub further_on : {m n : Made} (low : ℕ) → low ≤ length m.blocks → Grows m n → low ≤ length n.blocks
 further_on low le h = let longer = h.longer in omega arith
@@ -243,22 +261,21 @@ module _ (g : p.Prog) (first : ℕ) (later : List Block) where
     coded (p.Assign (p.Struct count cells) a e) to free m low le l =
         let at = place_at first a free in
         let from = behind a free in
+        let whole = is_whole g first a cells in
+        let many = groups_in whole cells in
         let address = put (Address to at) m in
-        let stored = put_writes at (from + 1) cells address in
-        let copied = put_reads from (from + 1) cells stored in
+        let copied = put_groups from at many cells address in
         let n = make g first e from (from + 1) copied in
-        let w = writes_point at (from + 1) cells address in
-        let r = reads_point from (from + 1) cells stored in
-        let grown : Grows m copied = reads_grow from (from + 1) cells (writes_grow at (from + 1) cells (grows_put (Address to at) (stays m))) in
-        let same : copied.point ≡ reads_of from (from + 1) cells r.numbers (writes_of at (from + 1) cells w.numbers (before (Address to at) m.point)) = r.point ∙ ap (λ q. reads_of from (from + 1) cells r.numbers q) w.point in
-        let P = λ (w' : Place) (q : ℕ). Codes g first later e q (q + 1) n.point (reads_of q (q + 1) cells r.numbers (writes_of w' (q + 1) cells w.numbers (before (Address to w') m.point))) in (
+        let grown : Grows m copied = groups_grow from at many cells (grows_put (Address to at) (stays m)) in
+        let P = λ (w : Place) (q : ℕ). Codes g first later e q (q + 1) n.point copied.point × CodesGroups q w many cells copied.point (before (Address to w) m.point) in
+        let both = carry P a free (coded e from (from + 1) copied low (further_on low le grown) (later_before (place_grows g first a free (stays n)) l), groups_coded from at many cells address) in (
           n.point,
-          r.numbers,
-          w.numbers,
-          r.count,
-          w.count,
+          copied.point,
+          many,
+          groups_allowed whole cells,
           place_coded a free n low (further_on low le (grows g first e from (from + 1) grown)) l,
-          carry P a free (subst (λ q. Codes g first later e from (from + 1) n.point q) same (coded e from (from + 1) copied low (further_on low le grown) (later_before (place_grows g first a free (stays n)) l))),
+          both.0,
+          both.1,
         )
     coded (p.Update a (NumberBy kind op at) e) to free m low le l =
         let place = place_at first a free in

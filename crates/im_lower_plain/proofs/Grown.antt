@@ -1,5 +1,5 @@
 -- Expressions add blocks, and change none.
-use Rattle.std.proofs.Common.{ℕ, ◌+◌, false, List, [], ◌∷◌, length}
+use Rattle.std.proofs.Common.{ℕ, zero, suc, ◌+◌, false, List, [], ◌∷◌, length, take, drop}
 use Rattle.std.specs.Prelude.{pos, Some, None}
 use Rattle.im_ctype.specs.declared.cell.Cell.{Cell}
 use Rattle.im_typed.specs.declared.expression.Change.{Change}
@@ -11,9 +11,9 @@ use Rattle.im_block.specs.declared.code.Place.{Place}
 use Rattle.im_block.specs.declared.code.Place.TheVariants.{Through}
 use Rattle.im_block.specs.declared.code.Line.TheVariants.{Put, PutNull, Convert, Unary, Not, Compute, Compare, Move, Distance, Address, Call, Serve}
 use Rattle.im_block.specs.declared.code.Exit.TheVariants.{Jump, Branch}
-use Rattle.im_lower_relation.specs.Codes.{further_in, count_of}
+use Rattle.im_lower_relation.specs.Codes.{further_in, count_of, is_whole}
 use Rattle.im_lower_plain.specs.Made.{Made, start}
-use Rattle.im_lower_plain.specs.Make.{place_at, behind, put_load, put_reads, put_writes, put_change, changed_in, part_offset, fails_made, holds_made, make_place, make, make_arguments, make_test}
+use Rattle.im_lower_plain.specs.Make.{place_at, behind, put_load, put_reads, put_writes, put_groups, groups_in, put_change, changed_in, part_offset, fails_made, holds_made, make_place, make, make_arguments, make_test}
 use Rattle.im_lower_plain.proofs.Growth.{Grows, grows_put, grows_read, grows_write, grows_close, grows_start}
 
 pub load_grows : {m n : Made} (x : p.Access) (to : ℕ) (place : Place) → Grows m n → Grows m (put_load x to place n)
@@ -27,6 +27,11 @@ reads_grow pointer to (c ∷ cs) h = grows_read to (Through pointer c.offset) c.
 pub writes_grow : {m n : Made} (place : Place) (from : ℕ) (cells : List Cell) → Grows m n → Grows m (put_writes place from cells n)
 writes_grow place from [] h = h
 writes_grow place from (c ∷ cs) h = grows_write (further_in place c.offset) c.kind from (writes_grow place (from + 1) cs h)
+
+pub groups_grow : {m n : Made} (pointer : ℕ) (place : Place) (count : ℕ) (cells : List Cell) → Grows m n → Grows m (put_groups pointer place count cells n)
+groups_grow pointer place zero cells h = reads_grow pointer (pointer + 1) cells (writes_grow place (pointer + 1) cells h)
+groups_grow pointer place (suc count) cells h =
+    reads_grow pointer (pointer + 1) (take 8 cells) (writes_grow place (pointer + 1) (take 8 cells) (groups_grow pointer place count (drop 8 cells) h))
 
 pub change_grows : {m n : Made} (change : Change) (to old by : ℕ) (place : Place) → Grows m n → Grows m (put_change change to old by place n)
 change_grows (NumberBy kind op at) to old by place h =
@@ -84,7 +89,7 @@ module _ (g : p.Prog) (first : ℕ) where
         place_grows a free (grows e to (behind a free) (grows_write (place_at first a free) kind to h))
     grows (p.Assign (p.Struct count cells) a e) to free h =
         place_grows a free (grows e (behind a free) (behind a free + 1)
-        (reads_grow (behind a free) (behind a free + 1) cells (writes_grow (place_at first a free) (behind a free + 1) cells (grows_put (Address to (place_at first a free)) h))))
+        (groups_grow (behind a free) (place_at first a free) (groups_in (is_whole g first a cells) cells) cells (grows_put (Address to (place_at first a free)) h)))
     grows (p.Update a change e) to free h =
         place_grows a free (grows_read to (place_at first a free) (changed_kind change)
         (grows e (behind a free) (behind a free + 1) (change_grows change to to (behind a free) (place_at first a free) h)))

@@ -1,6 +1,6 @@
 -- What the parts of an expression put before the open block, as a function from the code so far. Private contracts alone
 -- speak of this; that it is what the relation asks is proved.
-use Rattle.std.specs.Prelude.{ℕ, ◌+◌, true, false, Bool, List, [], ◌∷◌, length, pos, slice_get, Some, None}
+use Rattle.std.specs.Prelude.{ℕ, zero, suc, ◌+◌, ◌/◌, true, false, Bool, List, [], ◌∷◌, length, take, drop, pos, slice_get, Some, None}
 use Rattle.im_num.specs.declared.kind.Kind.TheVariants.{Ptr}
 use Rattle.im_ctype.specs.declared.cell.Cell.{Cell}
 use Rattle.im_typed.specs.declared.expression.Change.{Change}
@@ -12,7 +12,7 @@ use Rattle.im_block.specs.declared.code.Place.{Place}
 use Rattle.im_block.specs.declared.code.Place.TheVariants.{Static, Local, Through}
 use Rattle.im_block.specs.declared.code.Line.TheVariants.{Put, PutNull, Convert, Unary, Not, Compute, Compare, Move, Distance, Address, Call, Serve}
 use Rattle.im_block.specs.declared.code.Exit.TheVariants.{Jump, Branch}
-use Rattle.im_lower_relation.specs.Codes.{further_in, cells_of_shape, offset_in, count_of}
+use Rattle.im_lower_relation.specs.Codes.{further_in, cells_of_shape, offset_in, count_of, is_whole}
 use Rattle.im_lower_plain.specs.Made.{Made, put, put_read, put_write, close, start}
 
 -- where a place is: in a named object, or behind the pointer in the register free
@@ -58,10 +58,23 @@ abbrev pub put_increment : Change → Bool → ℕ → ℕ → Place → Made �
 put_increment change old to beside place m =
     put_read to place (changed_kind change) (put (Put beside (pos 1)) (put_change change (changed_in old to beside) to beside place m))
 
--- all cells are read before the first is written; then the address of the place
-abbrev pub put_copy : ℕ → ℕ → Place → List Cell → Made → Made
-put_copy to pointer place cells m =
-    put_reads pointer (pointer + 1) cells (put_writes place (pointer + 1) cells (put (Address to place) m))
+-- all cells of a group are read before the first is written
+abbrev pub put_group : ℕ → Place → List Cell → Made → Made
+put_group pointer place cells m = put_reads pointer (pointer + 1) cells (put_writes place (pointer + 1) cells m)
+
+-- so many groups of 8 cells, and one of those that are left
+abbrev pub put_groups : ℕ → Place → ℕ → List Cell → Made → Made
+put_groups pointer place zero cells m = put_group pointer place cells m
+put_groups pointer place (suc n) cells m = put_group pointer place (take 8 cells) (put_groups pointer place n (drop 8 cells) m)
+
+-- a struct that is a whole object is copied in groups, and another one at once
+abbrev pub groups_in : Bool → List Cell → ℕ
+groups_in false cells = 0
+groups_in true cells = length cells / 8
+
+-- the groups; then the address of the place
+abbrev pub put_copy : ℕ → ℕ → Place → ℕ → List Cell → Made → Made
+put_copy to pointer place n cells m = put_groups pointer place n cells (put (Address to place) m)
 
 -- where a part begins in a whole that an expression gives
 abbrev pub part_offset : p.Prog → ℕ → p.Expr → ℕ
@@ -129,7 +142,8 @@ module _ (g : p.Prog) (first : ℕ) where
     make (p.Assign (p.Scalar kind) a e) to free m =
         make_place a free (make e to (behind a free) (put_write (place_at first a free) kind to m))
     make (p.Assign (p.Struct count cells) a e) to free m =
-        make_place a free (make e (behind a free) (behind a free + 1) (put_copy to (behind a free) (place_at first a free) cells m))
+        make_place a free (make e (behind a free) (behind a free + 1)
+        (put_copy to (behind a free) (place_at first a free) (groups_in (is_whole g first a cells) cells) cells m))
     make (p.Update a change e) to free m =
         make_place a free (put_read to (place_at first a free) (changed_kind change)
         (make e (behind a free) (behind a free + 1) (put_change change to to (behind a free) (place_at first a free) m)))

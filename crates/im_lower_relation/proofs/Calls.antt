@@ -10,7 +10,7 @@ use Rattle.im_typed.specs.Runs as typed
 use Rattle.im_typed.specs.Values.{Values}
 use Rattle.im_typed.specs.Meaning.{Around, Flow, Next, Broke, Continued, Returned, does}
 use Rattle.im_typed.specs.Programs.{Setting, first_object, shapes_of, entering, leaving, call_result, frame_of, around, body_of, enters, called, calls_of}
-use Rattle.im_typed.specs.Typing.{IsTypedFunc, IsWellTyped, parameters}
+use Rattle.im_typed.specs.Typing.{IsObject, IsTypedFunc, IsTypedStatic, IsWellTyped, parameters}
 use Rattle.im_typed.specs.Sound.{IsSoundWorld, FlowFits, ArgumentsFit}
 use Rattle.im_typed.proofs.SoundCalls.{if-true, if-false, each-at, new-shape, begun-sound}
 use Rattle.im_typed.proofs.SoundExprs.{there}
@@ -34,6 +34,7 @@ use Rattle.im_lower_relation.specs.Laws.{setting_of}
 use Rattle.im_lower_relation.proofs.Steps.{Known, here, stepped, further, finished, does-later, does-bind, joined}
 use Rattle.im_lower_relation.proofs.Uses.{register-same, register-other, line-goes, stands}
 use Rattle.im_lower_relation.proofs.Ready.{HasArguments, Ready, CallsDo, Works}
+use Rattle.im_lower_relation.proofs.Groups.{numbered-of}
 use Rattle.im_lower_relation.proofs.Bytes.{kept-same}
 use Rattle.im_lower_relation.proofs.Flows.{end_of, Left}
 use Rattle.im_lower_relation.proofs.Statements.{statement}
@@ -140,6 +141,9 @@ module _ (ts : Setting) (u : Code) (input : List ℕ) (typed_program : IsWellTyp
         depth = refl;
         fuel = few;
         agrees = got.agrees;
+        statics = λ j o e. (each-at (IsTypedStatic p.statics) p.statics j o typed_program.statics e).0.1;
+        laid = λ j o e. (each-at (λ (x : q.LocalObject). IsObject x.size x.cells) f.objects j o t.1 e).1;
+        numbered = λ j o e. numbered-of p i j f o ef e;
       } in
       joined u g p (within i w callers)
       (record {

@@ -35,7 +35,7 @@ some-size I32 = omega arith
 some-size U32 = omega arith
 some-size Ptr = omega arith
 
-laid-end : (from size : ℕ) (cells : List Cell) → AreLaidOut from size cells → from ≤ size
+pub laid-end : (from size : ℕ) (cells : List Cell) → AreLaidOut from size cells → from ≤ size
 laid-end from size [] h = h
 laid-end from size (x ∷ xs) h = let le = laid-end (x.offset + kind_size x.kind) size xs h.2 in let first = h.0 in omega arith
 

@@ -7,6 +7,7 @@ pub mod Cells
 pub mod Ready
 pub mod Bytes
 pub mod Structs
+pub mod Groups
 pub mod Values
 pub mod Flows
 pub mod Cases

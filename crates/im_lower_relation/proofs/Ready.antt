@@ -1,13 +1,14 @@
 -- What holds all along the run of a body, and what is known of the calls in it.
-use Rattle.std.proofs.Common.{◌≡◌, ℕ, suc, ◌<◌, ◌≤◌, List, [], ◌∷◌, length, ◌∙◌, arith}
+use Rattle.std.proofs.Common.{◌≡◌, ℕ, suc, ◌+◌, ◌-◌, ◌<◌, ◌≤◌, List, [], ◌∷◌, length, ◌∙◌, arith}
 use Rattle.std.specs.Prelude.{Option, Some, slice_get}
 use Rattle.im_store.specs.Objects.{Value, Store}
+use Rattle.im_store.specs.Statics.{StaticObject}
 use Rattle.im_num.specs.declared.kind.Kind.TheVariants.{Ptr}
 use Rattle.im_typed.specs.Program.{Access, Place, Expr, Exprs, LocalObject, Func, Prog}
 use Rattle.im_typed.specs.Runs.{World, Answer}
 use Rattle.im_typed.specs.Runs as typed
 use Rattle.im_typed.specs.Meaning.{Around, Calls, place_of, value_of, values_of}
-use Rattle.im_typed.specs.Typing.{parameters, shape_of, IsTypedPlace, IsTyped, AreArguments}
+use Rattle.im_typed.specs.Typing.{AreLaidOut, parameters, shape_of, IsTypedPlace, IsTyped, AreArguments}
 use Rattle.im_typed.specs.Sound.{IsValue, IsSoundWorld, IsHere, KeepsWorld, Fits, ArgumentsFit}
 use Rattle.im_typed.proofs.Sounds.{here-kept}
 use Rattle.im_typed.proofs.SoundExprs.{RightAround, at-shape, right-place, right-value, right-values}
@@ -18,7 +19,7 @@ use Rattle.im_block.specs.declared.unit.Registers.TheVariants.{Virtual}
 use Rattle.im_block.specs.declared.unit.Function.{Function}
 use Rattle.im_block.specs.declared.unit.Unit.{Unit as Code}
 use Rattle.im_block.specs.Meaning.{Setting}
-use Rattle.im_lower_relation.specs.Codes.{Point, before}
+use Rattle.im_lower_relation.specs.Codes.{Point, before, all_objects}
 use Rattle.im_lower_relation.specs.Agrees.{Agrees, Home, Mark, at, Does, Came}
 use Rattle.im_lower_relation.proofs.Steps.{Right, Known}
 use Rattle.im_lower_relation.proofs.Uses.{Took}
@@ -36,6 +37,9 @@ pub record Ready (p : Prog) (f : Func) (c : Around) (bound : ℕ) (s : typed.Sta
   pub depth : s.world.depth ≡ c.depth
   pub fuel : s.fuel ≤ bound
   pub agrees : Agrees s.world.store store
+  pub statics : (n : ℕ) (o : StaticObject) → slice_get p.statics n ≡ Some o → AreLaidOut 0 o.size o.cells
+  pub laid : (n : ℕ) (o : LocalObject) → slice_get f.objects n ≡ Some o → AreLaidOut 0 o.size o.cells
+  pub numbered : (n : ℕ) (o : LocalObject) → slice_get f.objects n ≡ Some o → slice_get (all_objects p.funcs) (c.first + n - length p.statics) ≡ Some o
 
 -- what a call line does
 pub record CallsDo (u : Code) (g : Setting) (p : Prog) (calls : Calls) (bound : ℕ) : Type 0 where
@@ -61,7 +65,7 @@ module _ (p : Prog) (f : Func) (c : Around) (bound : ℕ) where
   pub ready-later : {s t : typed.State} {store after : Store} → Ready p f c bound s store → IsSoundWorld p.statics t.world → KeepsWorld s.world t.world → t.fuel ≤ s.fuel → Agrees t.world.store after → Ready p f c bound t after
   ready-later {s} {t} {store} {after} r sane keeps spent agrees =
       let few = r.fuel in
-      record { sane = sane; here = here-kept keeps r.here; depth = keeps.depth ∙ r.depth; fuel = omega arith; agrees = agrees }
+      record { sane = sane; here = here-kept keeps r.here; depth = keeps.depth ∙ r.depth; fuel = omega arith; agrees = agrees; statics = r.statics; laid = r.laid; numbered = r.numbered }
 
   pub ready-known : {A : Type 0} {P : World → A → Type 0} {s t : typed.State} {store after : Store} {a : A} → Ready p f c bound s store → Known p.statics s P a t → Agrees t.world.store after → Ready p f c bound t after
   ready-known r known agrees = ready-later r known.sane known.keeps known.spent agrees

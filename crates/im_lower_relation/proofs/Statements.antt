@@ -112,7 +112,7 @@ module _ (u : Code) (g : Setting) (p : q.Prog) (f : q.Func) (c : Around) (bound 
         does-turn u g p h fn is b body n registers store s.world s.fuel _ begins_body (λ left e.
         let few = ready.fuel in
         let began : typed.State = record { world = s.world; fuel = left } in
-        let one : IsReady began store = record { sane = ready.sane; here = ready.here; depth = ready.depth; fuel = omega arith; agrees = ready.agrees } in
+        let one : IsReady began store = record { sane = ready.sane; here = ready.here; depth = ready.depth; fuel = omega arith; agrees = ready.agrees; statics = ready.statics; laid = ready.laid; numbered = ready.numbered } in
         does-bind u g p h (joined u g p h (right_body store began one) (does_body (moved n b) registers store began one))
         (λ flow v n₁ after₁ left₁ k.
         let spent = k.0.spent in

@@ -38,34 +38,34 @@ use Rattle.im_lower_relation.proofs.Ready.{HasArguments}
 
 -- what a read of several cells tells
 
-record Parts (store : Store) (o : Object) (offset : ℕ) (c : Cell) (cs : List Cell) (vs : Values) : Type 0 where
+pub record Parts (store : Store) (o : Object) (offset : ℕ) (c : Cell) (cs : List Cell) (vs : Values) : Type 0 where
   pub first : Value
   pub rest : Values
   pub reads : read_cell store o (offset + c.offset) c.kind ≡ Fine first
   pub others : read_cells store o offset cs ≡ Fine rest
   pub is : first ∷ rest ≡ vs
 
-read-parts : (store : Store) (o : Object) (offset : ℕ) (c : Cell) (cs : List Cell) (vs : Values) → read_cells store o offset (c ∷ cs) ≡ Fine vs → Parts store o offset c cs vs
+pub read-parts : (store : Store) (o : Object) (offset : ℕ) (c : Cell) (cs : List Cell) (vs : Values) → read_cells store o offset (c ∷ cs) ≡ Fine vs → Parts store o offset c cs vs
 read-parts store o offset c cs vs e =
     let h = then-fine (read_cell store o (offset + c.offset) c.kind) (λ v. then_ (read_cells store o offset cs) (λ ws. Fine (v ∷ ws))) vs e in
     let k = then-fine (read_cells store o offset cs) (λ ws. Fine (h.0 ∷ ws)) vs h.2 in
     let last = k.2 in
     record { first = h.0; rest = k.0; reads = h.1; others = k.1; is = cc }
 
-stood-taken : (store : Store) (o : Object) (i : ℕ) (kind : Kind) (v : Value) → read_cell store o i kind ≡ Fine v → (stands store o i kind ≡ true) × (taken store v ≡ Fine v)
+pub stood-taken : (store : Store) (o : Object) (i : ℕ) (kind : Kind) (v : Value) → read_cell store o i kind ≡ Fine v → (stands store o i kind ≡ true) × (taken store v ≡ Fine v)
 stood-taken store o i kind v e = by-stand (stands store o i kind) e
   where
     by-stand : (b : Bool) → (if b then taken store (store.values o i) else Bad NoSuchCell) ≡ Fine v → (b ≡ true) × (taken store v ≡ Fine v)
     by-stand true h = (refl, (taken-same store (store.values o i) v h).1)
     by-stand false h = absurd (cc)
 
-all-taken : (store : Store) (o : Object) (offset : ℕ) (cells : List Cell) (vs : Values) → read_cells store o offset cells ≡ Fine vs → Each (λ v. taken store v ≡ Fine v) vs
+pub all-taken : (store : Store) (o : Object) (offset : ℕ) (cells : List Cell) (vs : Values) → read_cells store o offset cells ≡ Fine vs → Each (λ v. taken store v ≡ Fine v) vs
 all-taken store o offset [] vs e = let same : [] ≡ vs = cc in subst (Each (λ v. taken store v ≡ Fine v)) same tt
 all-taken store o offset (c ∷ cs) vs e =
     let h = read-parts store o offset c cs vs e in
     subst (Each (λ v. taken store v ≡ Fine v)) h.is ((stood-taken store o (offset + c.offset) c.kind h.first h.reads).1, all-taken store o offset cs h.rest h.others)
 
-all-read : (store : Store) (o : Object) (offset : ℕ) (cells : List Cell) (vs : Values) → read_cells store o offset cells ≡ Fine vs → length vs ≡ length cells
+pub all-read : (store : Store) (o : Object) (offset : ℕ) (cells : List Cell) (vs : Values) → read_cells store o offset cells ≡ Fine vs → length vs ≡ length cells
 all-read store o offset [] vs e = let same : [] ≡ vs = cc in subst (λ l. length l ≡ 0) same refl
 all-read store o offset (c ∷ cs) vs e =
     let h = read-parts store o offset c cs vs e in
@@ -93,7 +93,7 @@ member-fine store blocks agrees o offset d i kind e le =
 
 -- cells are written, and read back
 
-writes-shape : (store : Store) (o : Object) (offset : ℕ) (cells : List Cell) (vs : Values) (after : Store) → write_cells store o offset cells vs ≡ Fine after → (q : Object) → after.shape q ≡ store.shape q
+pub writes-shape : (store : Store) (o : Object) (offset : ℕ) (cells : List Cell) (vs : Values) (after : Store) → write_cells store o offset cells vs ≡ Fine after → (q : Object) → after.shape q ≡ store.shape q
 writes-shape store o offset [] vs after e q = let same : store ≡ after = cc in ap (λ (x : Store). x.shape q) (sym same)
 writes-shape store o offset (c ∷ cs) [] after e q = absurd (cc)
 writes-shape store o offset (c ∷ cs) (v ∷ vs) after e q =
@@ -113,7 +113,7 @@ writes-other store o offset i (c ∷ cs) (v ∷ vs) after far e =
     ∙ ap (λ b. if same_object o o && b then v else store.values o (offset + i)) (differs (offset + i) (offset + c.offset) lt)
     ∙ if-false (same_object o o && false) v (store.values o (offset + i)) (ap (λ b. b && false) (same_object-self o))
 
-each-later : (a b : ℕ) (cells : List Cell) → b < a → Each {A = Cell} (λ c. a ≤ c.offset) cells → Each {A = Cell} (λ c. b < c.offset) cells
+pub each-later : (a b : ℕ) (cells : List Cell) → b < a → Each {A = Cell} (λ c. a ≤ c.offset) cells → Each {A = Cell} (λ c. b < c.offset) cells
 each-later a b [] lt h = tt
 each-later a b (c ∷ cs) lt h = let first = h.0 in (omega arith, each-later a b cs lt h.1)
 
@@ -121,7 +121,7 @@ each-taken : (store after : Store) (vs : Values) → ((q : Object) → after.sha
 each-taken store after [] same h = tt
 each-taken store after (v ∷ vs) same h = (taken-kept store after v same h.0, each-taken store after vs same h.1)
 
-read-back : (store : Store) (o : Object) (offset from size : ℕ) (cells : List Cell) (vs : Values) (after : Store) → AreLaidOut from size cells → length vs ≡ length cells → Each (λ v. taken store v ≡ Fine v) vs → write_cells store o offset cells vs ≡ Fine after
+pub read-back : (store : Store) (o : Object) (offset from size : ℕ) (cells : List Cell) (vs : Values) (after : Store) → AreLaidOut from size cells → length vs ≡ length cells → Each (λ v. taken store v ≡ Fine v) vs → write_cells store o offset cells vs ≡ Fine after
     → read_cells after o offset cells ≡ Fine vs
 read-back store o offset from size [] [] after laid many takes e = refl
 read-back store o offset from size [] (v ∷ vs) after laid many takes e = absurd (cc)
@@ -159,7 +159,7 @@ part-cell store o offset (suc from) kind (c ∷ cs) vs e k =
     let r = part-cell store o offset from kind cs h.rest h.others k in
     (r.0, r.1, r.2, r.3, ap (λ (l : Values). take 1 (drop (suc from) l)) (sym h.is) ∙ r.4, r.5)
 
-dropped-cells : (store : Store) (o : Object) (offset from : ℕ) (cells : List Cell) (vs : Values) → read_cells store o offset cells ≡ Fine vs → read_cells store o offset (drop from cells) ≡ Fine (drop from vs)
+pub dropped-cells : (store : Store) (o : Object) (offset from : ℕ) (cells : List Cell) (vs : Values) → read_cells store o offset cells ≡ Fine vs → read_cells store o offset (drop from cells) ≡ Fine (drop from vs)
 dropped-cells store o offset zero cells vs e = e
 dropped-cells store o offset (suc from) [] vs e = let same : [] ≡ vs = cc in subst (λ (l : Values). Fine [] ≡ Fine (drop (suc from) l)) same refl
 dropped-cells store o offset (suc from) (c ∷ cs) vs e =
@@ -197,7 +197,7 @@ module _ (u : Code) (g : Setting) (p : Prog) (home : Home) (n : Mark) (s : typed
     pub kept : (q : ℕ) → q < from → registers q ≡ base q
     pub has : HasArguments registers from vs
 
-  reads : (store blocks : Store) → Agrees store blocks → (o : Object) (offset : ℕ) (cells : List Cell) (vs : Values) (ns : List ℕ) (pointer from : ℕ) (t : Point) (registers : ℕ → Value) → length ns ≡ length cells → pointer < from → registers pointer ≡ Pointer o offset
+  pub reads : (store blocks : Store) → Agrees store blocks → (o : Object) (offset : ℕ) (cells : List Cell) (vs : Values) (ns : List ℕ) (pointer from : ℕ) (t : Point) (registers : ℕ → Value) → length ns ≡ length cells → pointer < from → registers pointer ≡ Pointer o offset
       → read_cells store o offset cells ≡ Fine vs → WereRead (at home n (reads_of pointer from cells ns t) registers blocks s) t from registers blocks vs
   reads store blocks agrees o offset [] vs ns pointer from t registers many lt has e =
       let same : [] ≡ vs = cc in
@@ -229,7 +229,7 @@ module _ (u : Code) (g : Setting) (p : Prog) (home : Home) (n : Mark) (s : typed
     pub leads : Reaches u g b (at home n t registers left s)
     pub agrees : Agrees after left
 
-  writes : (begun : ℕ) (values_in : Store) (place : Place) (o : Object) (offset : ℕ) (registers : ℕ → Value) (cells : List Cell) (vs : Values) (ks : List ℕ) (from : ℕ) (t : Point) (store blocks after : Store)
+  pub writes : (begun : ℕ) (values_in : Store) (place : Place) (o : Object) (offset : ℕ) (registers : ℕ → Value) (cells : List Cell) (vs : Values) (ks : List ℕ) (from : ℕ) (t : Point) (store blocks after : Store)
       → ((mid left : Store) → ((q : Object) → mid.shape q ≡ store.shape q) → Agrees mid left → m.place_of place home.active registers left ≡ Fine (Pointer o offset))
       → Agrees store blocks → length ks ≡ length cells → HasArguments registers from vs → AreValues begun values_in (kinds_of cells) vs → write_cells store o offset cells vs ≡ Fine after
       → WereWritten (at home n (writes_of place from cells ks t) registers blocks s) t registers after

@@ -8,7 +8,8 @@ use Rattle.im_num.specs.Kinds.{wrap}
 use Rattle.im_store.specs.declared.operators.BinaryOp.{BinaryOp}
 use Rattle.im_store.specs.Checks.{Fine, then_}
 use Rattle.im_store.specs.Numbers.{apply, apply_one}
-use Rattle.im_store.specs.Objects.{Value, Number, Null, Pointer, Store}
+use Rattle.im_ctype.specs.declared.cell.Cell.{Cell}
+use Rattle.im_store.specs.Objects.{Object, static, Value, Number, Null, Pointer, Store}
 use Rattle.im_store.specs.Access.{read_cells}
 use Rattle.im_store.specs.Pointers.{holds, compare_values, bytes_moved, moved_by, member_at, distance}
 use Rattle.im_typed.specs.declared.expression.Change.TheVariants.{Number as NumberBy, Move as PointerBy}
@@ -16,11 +17,11 @@ use Rattle.im_typed.specs.Program as q
 use Rattle.im_typed.specs.Runs.{World, Answer, Gives, Stops, Run, checked, either}
 use Rattle.im_typed.specs.Runs as typed
 use Rattle.im_typed.specs.Values.{Values, used, write_at, truth}
-use Rattle.im_typed.specs.Meaning.{Around, place_of, value_of, values_of}
+use Rattle.im_typed.specs.Meaning.{Around, local, place_of, value_of, values_of}
 use Rattle.im_typed.specs.Typing.{InPlace, IsPart, IsScalarShape, shape_of, result_shape, IsTypedPlace, IsTyped, AreArguments, parameters}
 use Rattle.im_typed.specs.Sound.{IsValue, Fits}
 use Rattle.im_typed.proofs.Sounds.{value-kept}
-use Rattle.im_typed.proofs.SoundExprs.{takes-kind}
+use Rattle.im_typed.proofs.SoundExprs.{takes-kind, there}
 use Rattle.im_block.specs.declared.code.Place.TheVariants.{Through}
 use Rattle.im_block.specs.declared.code.Line.TheVariants.{PutNull, Address, Move, Distance, Put, Convert, Unary, Not, Compute, Compare, Read, Write, Call, Serve}
 use Rattle.im_block.specs.declared.code.Exit.TheVariants.{Jump, Branch}
@@ -30,14 +31,15 @@ use Rattle.im_block.specs.declared.unit.Function.{Function}
 use Rattle.im_block.specs.declared.unit.Unit.{Unit as Code}
 use Rattle.im_block.specs.Meaning as m
 use Rattle.im_block.specs.Meaning.{Setting, Frame, State, with_register, condition}
-use Rattle.im_lower_relation.specs.Codes.{Point, before, ends, Begins, above, count_of, cells_of_shape, offset_in, reads_of, writes_of, where_of, CodesPlace, Codes, CodesArguments, CodesTestBy, CodesTest}
-use Rattle.im_lower_relation.specs.Agrees.{Agrees, Home, Mark, moved, at, Follows, Does, HasOne, Holds, Came, CameAs}
-use Rattle.im_lower_relation.proofs.Structs.{struct-line, part-line, copy-lines, part-cell, part-cells, struct-place, part-shape, if-used}
+use Rattle.im_lower_relation.specs.Codes.{Point, before, ends, Begins, above, count_of, cells_of_shape, offset_in, where_of, CodesPlace, Codes, CodesArguments, static_size, object_size, fills, is_whole, CodesTestBy, CodesTest}
+use Rattle.im_lower_relation.specs.Agrees.{Agrees, Home, Mark, moved, at, Follows, Does, HasOne, HasCellsOf, Holds, Came, CameAs}
+use Rattle.im_lower_relation.proofs.Groups.{Clear, whole-clear, in-right, copy-groups}
+use Rattle.im_lower_relation.proofs.Structs.{struct-line, part-line, part-cell, part-cells, struct-place, part-shape, if-used}
 use Rattle.im_lower_relation.proofs.Steps.{Right, does-later, does-whole, does-bind, does-checked, does-weaker, joined}
 use Rattle.im_lower_relation.proofs.Stores.{agree-moved, agree-pointer, taken-kept}
 use Rattle.im_lower_relation.proofs.Uses.{register-same, register-other, number-value, condition-of, Took, does-line, does-jump, does-arm, branches, arrived, stands, does-used, does-number, checks}
 use Rattle.im_lower_relation.proofs.Operands.{converted-same, computed-same, compared-values, moved-same, distance-same, negated, integer-shape, scalar-shape, right-kind, right-same, one-of_kind}
-use Rattle.im_lower_relation.proofs.Places.{above-more, Stood, place-kept, designates}
+use Rattle.im_lower_relation.proofs.Places.{above-more, IsPlaceAt, Stood, place-kept, designates}
 use Rattle.im_lower_relation.proofs.Cells.{read-line, right-reading, assigned, change-lines, move-lines}
 use Rattle.im_lower_relation.proofs.Ready.{HasArguments, Ready, Works, ready-known, ready-took, right-of, right-at, right-placed, right-arguments}
 use Rattle.im_serve.specs.Services.{row}
@@ -92,6 +94,20 @@ module _ (u : Code) (g : Setting) (p : q.Prog) (f : q.Func) (c : Around) (bound 
   does-operator : {next : Point} {b : State} {Q : Values → typed.State → (ℕ → Value) → Store → Type 0} (op : BinaryOp) (kind : Kind) (x y : ℤ) (t : typed.State) (rest : ℤ → Run Values) → ((z : ℤ) → apply op kind x y ≡ Fine z → Does u g p home next b Q (rest z t)) → Does u g p home next b Q (typed.goes_on (c.operates op kind x y t) rest)
   does-operator {next} {b} {Q} op kind x y t rest h =
       subst (λ r. Does u g p home next b Q (typed.goes_on r rest)) (sym (works.operates.by op kind x y t)) (does-checked u g p home (apply op kind x y) t rest h)
+
+  -- a struct that overlaps a whole object, where it is read, is this object
+  whole-apart : (a : q.Place) (free : ℕ) (cells : List Cell) (vs : Values) (v w : Value) (x : typed.State) (left store : Store) (registers : ℕ → Value) → IsTypedPlace p f a → IsPlaceAt c a free v store registers → Ready p f c bound x left
+      → is_whole p c.first a cells ≡ true → 0 < length cells → (has : HasCellsOf cells vs x.world.store w) → (o : Object) (i : ℕ) → v ≡ Pointer o i → Clear o i has.0 has.1
+  whole-apart (q.Static n) free cells vs v w x left store registers t is ready whole some has o i e =
+      let found = there p.statics n t in
+      whole-clear x.world.store (static n) found.0.size found.0.cells cells vs has.0 has.1 o i (ready.sane.store.live n found.0 found.1) (ready.statics n found.0 found.1)
+      (ap (λ r. fills (static_size r) cells) (sym found.1) ∙ whole) has.3 some (sym e ∙ is)
+  whole-apart (q.Local n) free cells vs v w x left store registers t is ready whole some has o i e =
+      let found = there f.objects n t in
+      whole-clear x.world.store (local c n) found.0.size found.0.cells cells vs has.0 has.1 o i (ready.here.live n found.0 found.1) (ready.laid n found.0 found.1)
+      (ap (λ r. fills (object_size r) cells) (sym (ready.numbered n found.0 found.1)) ∙ whole) has.3 some (sym e ∙ is)
+  whole-apart (q.Target e₁) free cells vs v w x left store registers t is ready whole some has o i e = absurd (cc)
+  whole-apart (q.Member a d) free cells vs v w x left store registers t is ready whole some has o i e = absurd (cc)
 
   -- the values of an expression
   abbrev Gains : q.Expr → (to free : ℕ) → (entry next : Point) → Type 0
@@ -385,19 +401,20 @@ module _ (u : Code) (g : Setting) (p : q.Prog) (f : q.Func) (c : Around) (bound 
         let place = where_of p c.first blocks a free in
         let last = before (Address to place) next in
         does-bind u g p home
-        (joined u g p home (right-placed p f c bound works.right works.tame a s t.1 ready) (placed a free entry codes.0 t.1 codes.5 n registers store s ready))
+        (joined u g p home (right-placed p f c bound works.right works.tame a s t.1 ready) (placed a free entry codes.0 t.1 codes.4 n registers store s ready))
         (λ v w n₁ after left stood.
         does-bind u g p home
         (joined u g p home (right-as e w t.3 t.2 (ready-known p f c bound ready stood.0 stood.1.agrees))
-        (as-shape t.3 (lowered e top (top + 1) codes.0 (reads_of top (top + 1) cells codes.1 (writes_of place (top + 1) cells codes.2 last)) (omega arith) t.2 codes.6 n₁ after left w (ready-known p f c bound ready stood.0 stood.1.agrees))))
+        (as-shape t.3 (lowered e top (top + 1) codes.0 codes.1 (omega arith) t.2 codes.5 n₁ after left w (ready-known p f c bound ready stood.0 stood.1.agrees))))
         (λ vs x n₂ after₂ left₂ k.
         if-used vs x (write_at (q.Struct count cells) v vs)
-        (λ r. Does u g p home next (at home n₂ (reads_of top (top + 1) cells codes.1 (writes_of place (top + 1) cells codes.2 last)) after₂ left₂ x) (CameAs (Some (q.Struct count cells)) registers to free) r) (λ why. record { by = tt })
+        (λ r. Does u g p home next (at home n₂ codes.1 after₂ left₂ x) (CameAs (Some (q.Struct count cells)) registers to free) r) (λ why. record { by = tt })
         (does-whole u g p home
         (does-bind u g p home
-        (copy-lines u g p home n₂ x v place count 1048576 cells codes.1 codes.2 vs top (top + 1) last after₂ left₂
+        (copy-groups u g p home n₂ x v place count 1048576 codes.2 cells vs top codes.1 last after₂ left₂
         (λ mid lf rs same kept ag. designates c p blocks a free v mid lf rs ag (place-kept c a free v w.world.store mid after rs (λ o. same o ∙ k.0.keeps.same o) (λ i ge l. kept i (omega arith) ∙ k.1.kept i (omega arith) (λ e. omega arith)) stood.1.is))
-        k.1.agrees t.0.2 codes.3 codes.4 (omega arith) k.1.has k.0.fits)
+        k.1.agrees t.0.2 codes.6 k.1.has k.0.fits
+        (in-right codes.3 (λ whole. whole-apart a free cells vs v (after₂ top) x left₂ w.world.store after t.1 stood.1.is (ready-known p f c bound (ready-known p f c bound ready stood.0 stood.1.agrees) k.0 k.1.agrees) whole (let counted = t.0.0 in let some = t.0.1 in omega arith) k.1.has)))
         (λ ws y n₃ after₃ left₃ copied.
         does-line u g p home (Address to place) next n₃ after₃ left₃ y to (m.place_of place home.active after₃ left₃) v refl
         (designates c p blocks a free v y.world.store left₃ after₃ copied.agrees (place-kept c a free v w.world.store y.world.store after after₃ (λ o. copied.shapes o ∙ k.0.keeps.same o) (λ i ge l. copied.kept i (omega arith) ∙ k.1.kept i (omega arith) (λ e. omega arith)) stood.1.is))

@@ -1,8 +1,10 @@
 -- What places and expressions become. Each relation is between two points of a function's code: at which lines a part
 -- begins, and with which it goes on. A struct's value is the address of its place.
-use Rattle.std.specs.Prelude.{◌≡◌, ℕ, suc, ◌+◌, true, false, List, [], ◌∷◌, length, pos, Option, Some, None, slice_get}
+use Rattle.std.specs.Prelude.{◌≡◌, ◌⊎◌, ℕ, zero, suc, ◌+◌, ◌-◌, ◌==◌, max, Bool, true, false, List, [], ◌∷◌, ◌++◌, length, take, drop, pos, Option, Some, None, slice_get}
 use Rattle.im_num.specs.declared.kind.Kind.TheVariants.{Ptr}
+use Rattle.im_num.specs.Kinds.{kind_size}
 use Rattle.im_ctype.specs.declared.cell.Cell.{Cell}
+use Rattle.im_store.specs.Statics.{StaticObject}
 use Rattle.im_typed.specs.declared.expression.Change.TheVariants.{Number as NumberBy, Move as PointerBy}
 use Rattle.im_typed.specs.Program as p
 use Rattle.im_typed.specs.Typing.{shape_of}
@@ -54,7 +56,7 @@ abbrev pub offset_in : Option Cell → ℕ
 offset_in None = 0
 offset_in (Some c) = c.offset
 
--- a struct is copied: all cells are read before the first is written; the numbers of these accesses come from two lists
+-- cells are read into registers side by side, and written from these; the numbers of the accesses come from a list
 abbrev pub reads_of : ℕ → ℕ → List Cell → List ℕ → Point → Point
 reads_of pointer to [] ns t = t
 reads_of pointer to (c ∷ cs) [] t = t
@@ -64,6 +66,49 @@ abbrev pub writes_of : Place → ℕ → List Cell → List ℕ → Point → Po
 writes_of place from [] ns t = t
 writes_of place from (c ∷ cs) [] t = t
 writes_of place from (c ∷ cs) (n ∷ ns) t = before (Write (further_in place c.offset) c.kind from n) (writes_of place (suc from) cs ns t)
+
+-- a group of cells is copied: all are read before the first is written
+abbrev pub CodesGroup : ℕ → Place → List Cell → Point → Point → Type 0
+CodesGroup pointer place cells s t =
+    (ns ks : List ℕ) × (length ns ≡ length cells) × (length ks ≡ length cells)
+    × (s ≡ reads_of pointer (pointer + 1) cells ns (writes_of place (pointer + 1) cells ks t))
+
+-- so many groups of 8 cells one after the other, and one of those that are left
+abbrev pub CodesGroups : ℕ → Place → ℕ → List Cell → Point → Point → Type 0
+CodesGroups pointer place zero cells s t = CodesGroup pointer place cells s t
+CodesGroups pointer place (suc n) cells s t =
+    (m : Point) × CodesGroup pointer place (take 8 cells) s m × CodesGroups pointer place n (drop 8 cells) m t
+
+-- the bytes from a struct's start to the end of its cells
+abbrev pub extent : List Cell → ℕ
+extent [] = 0
+extent (c ∷ cs) = max (c.offset + kind_size c.kind) (extent cs)
+
+-- the bytes of a static, and of a function's object
+abbrev pub static_size : Option StaticObject → Option ℕ
+static_size None = None
+static_size (Some s) = Some s.size
+
+abbrev pub object_size : Option p.LocalObject → Option ℕ
+object_size None = None
+object_size (Some o) = Some o.size
+
+-- the objects of functions, in order
+abbrev pub all_objects : List p.Func → List p.LocalObject
+all_objects [] = []
+all_objects (f ∷ fs) = f.objects ++ all_objects fs
+
+-- an object ends where the cells of a struct end that begins with it
+abbrev pub fills : Option ℕ → List Cell → Bool
+fills None cells = false
+fills (Some size) cells = size == extent cells
+
+-- the struct is a whole object: one that overlaps it is the same
+abbrev pub is_whole : p.Prog → ℕ → p.Place → List Cell → Bool
+is_whole g first (p.Static n) cells = fills (static_size (slice_get g.statics n)) cells
+is_whole g first (p.Local n) cells = fills (object_size (slice_get (all_objects g.funcs) (first + n - length g.statics))) cells
+is_whole g first (p.Target e) cells = false
+is_whole g first (p.Member a d) cells = false
 
 abbrev pub count_of : p.Exprs → ℕ
 count_of p.no_exprs = 0
@@ -121,9 +166,9 @@ module _ (g : p.Prog) (first : ℕ) (blocks : List Block) where
     Codes (p.Assign (p.Scalar kind) a e) to free s t =
         (m : Point) × (n : ℕ) × CodesPlace a free s m × Codes e to (above a free) m (before (Write (where_of a free) kind to n) t)
     Codes (p.Assign (p.Struct count cells) a e) to free s t =
-        (m : Point) × (ns ks : List ℕ) × (length ns ≡ length cells) × (length ks ≡ length cells)
-        × CodesPlace a free s m × Codes e (above a free) (above a free + 1) m
-        (reads_of (above a free) (above a free + 1) cells ns (writes_of (where_of a free) (above a free + 1) cells ks (before (Address to (where_of a free)) t)))
+        (m k : Point) × (n : ℕ) × ((n ≡ 0) ⊎ (is_whole g first a cells ≡ true))
+        × CodesPlace a free s m × Codes e (above a free) (above a free + 1) m k
+        × CodesGroups (above a free) (where_of a free) n cells k (before (Address to (where_of a free)) t)
     Codes (p.Update a (NumberBy kind op at) e) to free s t =
         (m : Point) × (n k : ℕ) × CodesPlace a free s (before (Read to (where_of a free) kind n) m)
         × Codes e (above a free) (above a free + 1) m

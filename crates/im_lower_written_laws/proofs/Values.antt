@@ -12,7 +12,7 @@ use Rattle.im_block.specs.declared.code.Line.TheVariants.{Put, PutNull, Convert,
 use Rattle.im_block.specs.declared.code.Exit.TheVariants.{Jump, Branch}
 use Rattle.im_block.specs.declared.code.Block.{Block}
 use Rattle.im_lower_relation.specs.Codes.{Point, before, ends, Begins, above, cells_of_shape, offset_in, count_of, where_of, CodesPlace, Codes, CodesArguments, CodesTest}
-use Rattle.im_lower_written_laws.proofs.Ways.{Or, OrPlace, OrRow, unplaced, placed_once, named_once, nearer, Allows, weaker, step, without, sets_none, sets_one, sets_two, sets_placed, writes, writes_row, reads_row, jump, branch}
+use Rattle.im_lower_written_laws.proofs.Ways.{Or, OrPlace, OrRow, unplaced, placed_once, named_once, nearer, Allows, weaker, step, without, sets_none, sets_one, sets_two, sets_placed, writes, groups_row, jump, branch}
 
 row_bounds : (from count v : ℕ) → (nat_le from v && nat_lt v (from + count)) ≡ true → (from ≤ v) × (v < from + count)
 row_bounds from count v e =
@@ -118,9 +118,7 @@ module _ (g : p.Prog) (first : ℕ) (blocks : List Block) where
         let w = where_of g first blocks a free in
         let low = above a free in
         let last : Allows blocks n (before (Address to w) t) (OrPlace w P) = sets_placed blocks n (Address to w) w to t P (λ v. refl) (λ v. refl) h in
-        let written = writes_row blocks n w (low + 1) cells c.2 _ P last in
-        let taken = reads_row blocks n low (low + 1) cells c.1 _ (OrPlace w P) c.3 written in
-        place_allows a free s c.0 n P c.5 (allows e low (low + 1) c.0 _ n (OrPlace w P) c.6 taken)
+        place_allows a free s c.0 n P c.4 (allows e low (low + 1) c.0 c.1 n (OrPlace w P) c.5 (groups_row blocks n low w c.2 cells c.1 _ P c.6 last))
     allows (p.Update a (NumberBy kind op at) e) to free s t n P c h =
         let w = where_of g first blocks a free in
         let by = above a free in

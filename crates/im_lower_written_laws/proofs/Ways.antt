@@ -1,5 +1,5 @@
 -- What is read first from a point on, line by line and over jumps.
-use Rattle.std.proofs.Common.{◌≡◌, ℕ, zero, suc, ◌+◌, ◌<◌, ◌≤◌, ◌⊎◌, inl, inr, Bool, true, false, not, List, [], ◌∷◌, length, refl, sym, ap, ◌∙◌, arith}
+use Rattle.std.proofs.Common.{◌≡◌, ℕ, zero, suc, ◌+◌, ◌<◌, ◌≤◌, ◌⊎◌, inl, inr, Bool, true, false, not, List, [], ◌∷◌, length, take, drop, refl, sym, ap, ◌∙◌, subst, arith}
 use Rattle.std.specs.Prelude.{◌&&◌, ◌||◌, ◌==◌}
 use Rattle.std.proofs.lemmas.Bool.{and_parts, or_cases, cases_Bool, not-true, both_ways, eqb-true, eqb-false}
 use Rattle.im_num.specs.declared.kind.Kind.{Kind}
@@ -12,7 +12,7 @@ use Rattle.im_block.specs.declared.code.Exit.TheVariants.{Jump, Turn, Branch}
 use Rattle.im_block.specs.declared.code.Block.{Block}
 use Rattle.im_alloc_relation.specs.Live.{place_uses, uses, sets, lives}
 use Rattle.im_alloc_relation.specs.Reads.{lives_in, reads_first}
-use Rattle.im_lower_relation.specs.Codes.{Point, before, ends, Begins, further_in, reads_of, writes_of}
+use Rattle.im_lower_relation.specs.Codes.{Point, before, ends, Begins, further_in, reads_of, writes_of, CodesGroup, CodesGroups}
 
 -- a register, the register of a place, several side by side; or what else
 abbrev pub Or : ℕ → (ℕ → Type 0) → ℕ → Type 0
@@ -41,6 +41,11 @@ named_once r w P v (inl y) = inl y
 named_once r w P v (inr (inl u)) = inr (inl u)
 named_once r w P v (inr (inr (inl y))) = inl y
 named_once r w P v (inr (inr (inr q))) = inr (inr q)
+
+pub place_first : (r : ℕ) (w : Place) (P : ℕ → Type 0) (v : ℕ) → Or r (OrPlace w P) v → OrPlace w (Or r P) v
+place_first r w P v (inl y) = inr (inl y)
+place_first r w P v (inr (inl u)) = inl u
+place_first r w P v (inr (inr q)) = inr (inr q)
 
 pub further : (w : Place) (d : ℕ) (P : ℕ → Type 0) (v : ℕ) → OrPlace w P v → OrPlace (further_in w d) P v
 further (Static object offset) d P v q = q
@@ -150,6 +155,17 @@ module _ (blocks : List Block) where
       taken : (v : ℕ) → (v == to) ≡ false → Or pointer (Or to P) v → Or pointer P v
       taken v f (inl y) = inl y
       taken v f (inr q) = inr (without to P v f q)
+
+  group_row : (n low : ℕ) (w : Place) (cells : List Cell) (s t : Point) (P : ℕ → Type 0) → CodesGroup low w cells s t → Allows blocks n t (OrPlace w P) → Allows blocks n s (Or low (OrPlace w P))
+  group_row n low w cells s t P c h =
+      subst (λ z. Allows blocks n z (Or low (OrPlace w P))) (sym c.4)
+      (reads_row n low (low + 1) cells c.0 _ (OrPlace w P) c.2 (writes_row n w (low + 1) cells c.1 t P h))
+
+  pub groups_row : (n low : ℕ) (w : Place) (count : ℕ) (cells : List Cell) (s t : Point) (P : ℕ → Type 0) → CodesGroups low w count cells s t → Allows blocks n t (OrPlace w P) → Allows blocks n s (Or low (OrPlace w P))
+  groups_row n low w zero cells s t P c h = group_row n low w cells s t P c h
+  groups_row n low w (suc count) cells s t P c h =
+      let rest = weaker n c.0 _ _ (groups_row n low w count (drop 8 cells) c.0 t P c.2 h) (λ v q. place_first low w P v q) in
+      weaker n s _ _ (group_row n low w (take 8 cells) s c.0 (Or low P) c.1 rest) (λ v q. named_once low w P v q)
 
   -- over a jump to a block
   enter : (m j : ℕ) (t : Point) (b : Begins blocks j t) (v : ℕ) → reads_first blocks (suc m) j v ≡ reads_at blocks m t v

@@ -29,15 +29,15 @@ use Rattle.im_frame.specs.declared.layout.Layout.{Layout}
 use Rattle.im_select_relation.specs.Jumps.{jump_of, one_if, jumps_in, are_few}
 use Rattle.im_select.specs.Leads.{lead, led, kept}
 use Rattle.im_select.specs.declared.branching.Test.{Test}
-use Rattle.im_select.specs.declared.branching.Test.TheVariants.{Compares}
+use Rattle.im_select.specs.declared.branching.Test.TheVariants.{Compares, ComparesZero}
 use Rattle.im_select.specs.declared.distance.Distance.{Distance as Reach}
 use Rattle.im_select.specs.declared.distance.Distance.TheVariants.{Near, Far}
 use Rattle.im_select.specs.Emitted.{constant_by, high_of, low_of, moved_code, copied_code, converted_code, unary_code, compared_code, scaled_code, place_code, displaced_code, place_number, based_code, address_code, word_taken, passed_by, line_code, lines_code, behind_each, adds_code, enter_code, onward_code, test_code, test_or, taken_test, own_lines, is_next, branch_code, exit_code, is_empty, ended_code, labelled, block_code, others_below, laid_order, kept_order, Laying, leads_of, next_label, found_code, laid_block, laid_code, blocks_code, prologue_code, function_code, entry_label}
 use Rattle.im_select.specs.Selects.{laying_of}
 use Rattle.im_select.proofs.Following.{LeadsOn, lead_away}
-use Rattle.im_select.proofs.Pairing.{lines_alone, lines_paired, folds}
+use Rattle.im_select.proofs.Pairing.{lines_alone, lines_paired, lines_stored, folds}
 use Rattle.im_select.proofs.Parts.{word_cases}
-use Rattle.im_select.proofs.Taking.{IsTaken, Nothing, Comparing, takes}
+use Rattle.im_select.proofs.Taking.{IsTaken, Nothing, Comparing, Zeroing, zero_line, takes}
 use Rattle.im_rv.specs.declared.instr.Op.{Op}
 use Rattle.im_select_operators.specs.Tables.{less_op}
 use Rattle.im_link.specs.Parts.{first_of, word_count}
@@ -45,6 +45,7 @@ use Rattle.im_link.proofs.Joining.{first_whole}
 use Rattle.im_link_laws.specs.Program.{IsProgram, part_of, start_code, given_at}
 use Rattle.im_link_laws.proofs.Runtimes.{size_of}
 use Rattle.im_select_relation.specs.Law.{is_nothing}
+use Rattle.im_select_relation.specs.Selected.{or_zero}
 use Rattle.im_select_executes.specs.Executing.{line_halves, words_by, block_words, jump_words, function_words}
 
 append_some : (xs : List CodeLine) (y : CodeLine) (ys : List CodeLine) → 0 < length (xs ++ y ∷ ys)
@@ -141,6 +142,14 @@ folded_some at m needed j r z to op kind left right lines n e rest =
     let same = ap length (lines_paired at m needed j r z to op kind left right lines (word z) d.line (e ∙ ap Some d.same) d.is) in
     omega arith
 
+stored_some : (at : Name → ℕ) (m : ℕ → ℕ) (needed : ℕ → ℕ → Bool) (j r : ℕ) (z : ℤ) (place : Place) (kind : Kind) (from access : ℕ) (lines : List Line) (n : ℕ) → word_taken (needed (suc j)) r (word z) (Write place kind from access) ≡ Some n → sum_of line_halves lines ≤ 2 * length (lines_code at m needed None (suc (suc j)) lines) → sum_of line_halves (Put r z ∷ Write place kind from access ∷ lines) ≤ 2 * length (lines_code at m needed None j (Put r z ∷ Write place kind from access ∷ lines))
+stored_some at m needed j r z place kind from access lines n e rest =
+    let zeroed : Line = Write place kind 0 access in
+    let some = line_some at (m (suc j)) zeroed in
+    let l = length-append (line_code at (m (suc j)) zeroed) (lines_code at m needed None (suc (suc j)) lines) in
+    let same = ap length (lines_stored at m needed j r z place kind from access lines n e) in
+    omega arith
+
 -- a constant that the next line takes is paid by that
 lines_some : (at : Name → ℕ) (m : ℕ → ℕ) (needed : ℕ → ℕ → Bool) (j : ℕ) (lines : List Line) → sum_of line_halves lines ≤ 2 * length (lines_code at m needed None j lines)
 lines_some at m needed j [] = omega arith
@@ -149,6 +158,11 @@ lines_some at m needed j (Put r z ∷ Compute to op kind left right ∷ lines) =
     word_cases (word_taken (needed (suc j)) r (word z) user)
     (λ e. alone_some at m needed j (Put r z) (user ∷ lines) e (lines_some at m needed (suc j) (Compute to op kind left right ∷ lines)))
     (λ n e. folded_some at m needed j r z to op kind left right lines n e (lines_some at m needed (suc (suc j)) lines))
+lines_some at m needed j (Put r z ∷ Write place kind from access ∷ lines) =
+    let user : Line = Write place kind from access in
+    word_cases (word_taken (needed (suc j)) r (word z) user)
+    (λ e. alone_some at m needed j (Put r z) (user ∷ lines) e (lines_some at m needed (suc j) (Write place kind from access ∷ lines)))
+    (λ n e. stored_some at m needed j r z place kind from access lines n e (lines_some at m needed (suc (suc j)) lines))
 lines_some at m needed j (line ∷ lines) = alone_some at m needed j line lines refl (lines_some at m needed (suc j) lines)
 
 branch_some : (distance : Reach) (next : Option ℕ) (t : Test) (there other : ℕ) → 0 < length (branch_code distance next t there other)
@@ -189,6 +203,9 @@ sum_append w (x ∷ xs) ys = let h = sum_append w xs ys in omega arith
 tail_some : (live : ℕ → ℕ → Bool) (leads : ℕ → ℕ) (distance : Reach) (next : Option ℕ) (bare : Bool) (first frame : ℕ) (tail : List Line) (exit : Exit) (taken : Option Test) → IsTaken live tail exit taken → sum_of line_halves tail ≤ 2 * length (exit_code distance next bare first frame taken (led leads exit))
 tail_some live leads distance next bare first frame tail exit taken (Nothing exit') = omega arith
 tail_some live leads distance next bare first frame tail exit taken (Comparing to op kind left right x y p q) = let some = branch_some distance next (Compares op kind left right) (first + leads x) (first + leads y) in omega arith
+tail_some live leads distance next bare first frame tail exit taken (Zeroing line r to op kind left right x y nought p q s t) =
+    let some = branch_some distance next (ComparesZero op kind (or_zero r left) (or_zero r right)) (first + leads x) (first + leads y) in
+    zero_line (λ l. sum_of line_halves (l ∷ Compare to op kind left right ∷ []) ≤ 2 * length (branch_code distance next (ComparesZero op kind (or_zero r left) (or_zero r right)) (first + leads x) (first + leads y))) line r nought (λ z. omega arith) (omega arith)
 
 -- what a block is worth, where those that only jump are few or not
 abbrev worth : Bool → Block → ℕ

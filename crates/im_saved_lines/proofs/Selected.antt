@@ -35,16 +35,17 @@ use Rattle.im_alloc_placed.specs.Placed.{IsPlacedLine, IsPlacedExit}
 use Rattle.im_alloc_relation.specs.Live.{place_uses, uses, sets}
 use Rattle.im_live.specs.Reads.{reads, reads_stack, writes, exit_live, lives_before}
 use Rattle.im_live.proofs.Paths.{lives_more}
+use Rattle.im_select_relation.specs.Selected.{or_zero}
 use Rattle.im_select.specs.Leads.{led}
 use Rattle.im_select.specs.declared.branching.Test.{Test}
-use Rattle.im_select.specs.declared.branching.Test.TheVariants.{Nonzero, Compares}
+use Rattle.im_select.specs.declared.branching.Test.TheVariants.{Nonzero, Compares, ComparesZero}
 use Rattle.im_select.specs.declared.distance.Distance.{Distance as Reach}
 use Rattle.im_select.specs.declared.distance.Distance.TheVariants.{Near, Far}
 use Rattle.im_select.specs.Emitted.{entry_label, cut_code, result_code, call_code, word_taken, passed_by, line_code, lines_code, behind_each, adds_code, leave_code, onward_code, both_ways, test_op, test_code, test_or, taken_test, own_lines, is_next, branch_code, exit_code, is_empty, taking_code}
-use Rattle.im_select.proofs.Pairing.{lines_alone, lines_paired, Folds, folds, IsImmediate, immediate_of}
+use Rattle.im_select.proofs.Pairing.{lines_alone, lines_paired, lines_stored, Folds, folds, Zeroes, zeroes, IsImmediate, immediate_of}
 use Rattle.im_select.proofs.Services.{service_low, service_high}
 use Rattle.im_select.proofs.Parts.{IsBehind, behind_tail, word_cases}
-use Rattle.im_select.proofs.Taking.{IsTaken, Nothing, Comparing, takes as parted, test_branches}
+use Rattle.im_select.proofs.Taking.{IsTaken, Nothing, Comparing, Zeroing, zero_line, takes as parted, test_branches}
 use Rattle.im_saved_lines.specs.Scan.{Goes, IsSoundLine, way, is_base, is_returned, After, onward, scan, AreSound}
 use Rattle.im_saved_lines.specs.Laws.{lives_inside, IsLow, HasEntries, HasBlocks, HoldsCalls, SavesFrom}
 use Rattle.im_saved_lines.proofs.Scanning.{both, both_are, either, or_left, or_right, same_of, same_is, other_is, IsUnsaved, unsaved_not, unsaved_true, or_unsaved, scan_append, sound_append, Lives, First, Second, Later, line_lives, plain_sound, Wants, plain_wants}
@@ -193,6 +194,14 @@ operand_is LessOrEqual kind left right r e = turned_is r left right e
 operand_is GreaterOrEqual kind left right r e = either_is r left right e
 operand_is Equal kind left right r e = either_is r left right e
 operand_is NotEqual kind left right r e = either_is r left right e
+
+-- x0, or the operand itself, which isn't the zero's register
+zero_register : (z q r : ℕ) → r ≡ or_zero z q → (r ≡ 0) ⊎ ((r ≡ q) × ((r == z) ≡ false))
+zero_register z q r = by (q == z) refl
+  where
+    by : (t : Bool) → (q == z) ≡ t → r ≡ (if t then 0 else q) → (r ≡ 0) ⊎ ((r ≡ q) × ((r == z) ≡ false))
+    by true e same = inl same
+    by false e same = inr (same, ap (λ k. k == z) same ∙ e)
 
 module _ (at : ℕ → ℕ → Bool) where
   -- a jump to a label
@@ -399,6 +408,33 @@ module _ (functions : List Function) (statics first count frame : ℕ) (f : Func
           let lives = led_to x y r there.0 there.1 u e in
           or_right (reads line r) (not (r == to) && exit_live live (Branch to x y) r)
           (both_are (not (r == to)) (exit_live live (Branch to x y) r) (ap not (apart to x y r a b lives)) (or_right (r == to) (live x r || live y r) lives))
+  tail_before next bare tail exit taken behind r (Zeroing first_line z to op kind left right x y zero c d a b) meets h there u w = cases (branch_before at distance next (ComparesZero op kind (or_zero z left) (or_zero z right)) (first + leads x) (first + leads y) behind r meets u w)
+    where
+      line : Line
+      line = Compare to op kind left right
+
+      -- before the zero too, unless it is that register
+      before : (r == z) ≡ false → lives_before live (line ∷ []) (Branch to x y) r ≡ true → lives_before live (first_line ∷ line ∷ []) (Branch to x y) r ≡ true
+      before ne e =
+          let kept_ : (not (r == z) && lives_before live (line ∷ []) (Branch to x y) r) ≡ true = both_are (not (r == z)) (lives_before live (line ∷ []) (Branch to x y) r) (ap not ne) e in
+          zero_line (λ l. lives_before live (l ∷ line ∷ []) (Branch to x y) r ≡ true) first_line z zero (λ n. kept_) kept_
+
+      read : (r == left || r == right) ≡ true → (r == z) ≡ false → lives_before live (first_line ∷ line ∷ []) (Branch to x y) r ≡ true
+      read e ne = before ne (or_left (reads line r) (not (r == to) && exit_live live (Branch to x y) r) (or_left (r == left || r == right) false e))
+
+      operand : (r == or_zero z left || r == or_zero z right) ≡ true → lives_before live (first_line ∷ line ∷ []) (Branch to x y) r ≡ true
+      operand e = elim (either (r == or_zero z left) (r == or_zero z right) e) [
+        | inl l ↦ elim (zero_register z left r (same_of r (or_zero z left) l)) [ inl n ↦ absurd (unsaved_not r 0 u refl n) | inr k ↦ read (or_left (r == left) (r == right) (same_is r left k.0)) k.1 ]
+        | inr l ↦ elim (zero_register z right r (same_of r (or_zero z right) l)) [ inl n ↦ absurd (unsaved_not r 0 u refl n) | inr k ↦ read (or_right (r == left) (r == right) (same_is r right k.0)) k.1 ]
+      ]
+
+      cases : ((r ≡ (both_ways (ComparesZero op kind (or_zero z left) (or_zero z right))).left) ⊎ (r ≡ (both_ways (ComparesZero op kind (or_zero z left) (or_zero z right))).right)) ⊎ (at (first + leads x) r ≡ true) ⊎ (at (first + leads y) r ≡ true) → lives_before live (first_line ∷ line ∷ []) (Branch to x y) r ≡ true
+      cases (inl e) = operand (operand_is op kind (or_zero z left) (or_zero z right) r e)
+      cases (inr e) =
+          let lives = led_to x y r there.0 there.1 u e in
+          before (apart z x y r c d lives)
+          (or_right (reads line r) (not (r == to) && exit_live live (Branch to x y) r)
+          (both_are (not (r == to)) (exit_live live (Branch to x y) r) (ap not (apart to x y r a b lives)) (or_right (r == to) (live x r || live y r) lives)))
 
   -- ---- before a line
 
@@ -504,6 +540,59 @@ module _ (functions : List Function) (statics first count frame : ℕ) (f : Func
           let l = later c.1 in
           found (spent l c.0) (or_right (reads user r) remains (both_are (not (r == to)) (lives_before live (lines ++ tail) exit r) (ap not (other_is r to c.0)) l))
 
+  -- a zero and the line that stores it
+  stored_before : (needed : ℕ → ℕ → Bool) (j x : ℕ) (z : ℤ) (place : Place) (kind : Kind) (from access : ℕ) (lines tail : List Line) (exit : Exit) (behind : After) (r n : ℕ) → word_taken (needed (suc j)) x (word z) (Write place kind from access) ≡ Some n → IsBehind by needed j ((Put x z ∷ Write place kind from access ∷ lines) ++ tail) exit → ((scan at (lines_code places m needed None (suc (suc j)) lines) behind).next r ≡ true → lives_before live (lines ++ tail) exit r ≡ true) → IsUnsaved r → (scan at (lines_code places m needed None j (Put x z ∷ Write place kind from access ∷ lines)) behind).next r ≡ true → lives_before live ((Put x z ∷ Write place kind from access ∷ lines) ++ tail) exit r ≡ true
+  stored_before needed j x z place kind from access lines tail exit behind r n e is later u w =
+      cases (work_before zeroed rest r (λ q. refl) (work_wants places (m (suc j)) zeroed tt (rest.next r ≡ true) r u (plain_wants at head rest r (work_plain places (m (suc j)) zeroed tt) u there)))
+    where
+      user : Line
+      user = Write place kind from access
+
+      zeroed : Line
+      zeroed = Write place kind 0 access
+
+      d : Zeroes (needed (suc j)) x (word z) place from
+      d = zeroes (needed (suc j)) x (word z) place kind from access n e
+
+      head : List CodeLine
+      head = line_code places (m (suc j)) zeroed
+
+      ahead : List CodeLine
+      ahead = lines_code places m needed None (suc (suc j)) lines
+
+      rest : After
+      rest = scan at ahead behind
+
+      there : (scan at head rest).next r ≡ true
+      there = sym (ap (λ (k : After). k.next r) (ap (λ (c : List CodeLine). scan at c behind) (lines_stored places m needed j x z place kind from access lines n e) ∙ scan_append at head ahead behind)) ∙ w
+
+      remains : Bool
+      remains = not (writes user r) && lives_before live (lines ++ tail) exit r
+
+      -- a register that isn't the zero's
+      found : r ≢ x → (reads user r || remains) ≡ true → lives_before live ((Put x z ∷ user ∷ lines) ++ tail) exit r ≡ true
+      found ne a = both_are (not (r == x)) (reads user r || remains) (ap not (other_is r x ne)) a
+
+      named : place_uses place r ≡ true → lives_before live ((Put x z ∷ user ∷ lines) ++ tail) exit r ≡ true
+      named a =
+          found (λ q. let bad : true ≡ false = sym a ∙ ap (place_uses place) q ∙ d.apart in cc)
+          (or_left (reads user r) remains (or_left (place_uses place r || r == from) (reads_stack user && r == 2) (or_left (place_uses place r) (r == from) a)))
+
+      unread : lives_before live (lines ++ tail) exit r ≡ true → r ≢ x
+      unread l q =
+          let k : 1 + j ≡ suc j = omega arith in
+          let dead : lives_before by (lines ++ tail) exit x ≡ false = sym (is 1 x) ∙ ap (λ b. needed b x) k ∙ d.unread in
+          let lives : lives_before by (lines ++ tail) exit x ≡ true = ap (lives_before by (lines ++ tail) exit) (sym q) ∙ kept_before (lines ++ tail) exit r l in
+          let bad : true ≡ false = sym lives ∙ dead in
+          cc
+
+      cases : Before zeroed rest r → lives_before live ((Put x z ∷ user ∷ lines) ++ tail) exit r ≡ true
+      cases (inl a) = elim (either (place_uses place r || r == 0) (reads_stack zeroed && r == 2) a) [
+        | inl b ↦ elim (either (place_uses place r) (r == 0) b) [ inl c ↦ named c | inr c ↦ absurd (unsaved_not r 0 u refl (same_of r 0 c)) ]
+        | inr b ↦ absurd (unsaved_not r 2 u refl (same_of r 2 (both (reads_stack zeroed) (r == 2) b).1))
+      ]
+      cases (inr c) = let l = later c.1 in found (unread l) (or_right (reads user r) remains l)
+
   pub lines_before : (needed : ℕ → ℕ → Bool) (j : ℕ) (lines tail : List Line) (exit : Exit) (behind : After) (r : ℕ) → IsBehind by needed j (lines ++ tail) exit → ((s : ℕ) → IsUnsaved s → behind.next s ≡ true → lives_before live tail exit s ≡ true) → All (IsPlacedLine statics f) (lines ++ tail) → All (LineThere functions) (lines ++ tail) → IsUnsaved r → (scan at (lines_code places m needed None j lines) behind).next r ≡ true → lives_before live (lines ++ tail) exit r ≡ true
   lines_before needed j [] tail exit behind r is k h t u w = k r u w
   lines_before needed j (Put x z ∷ Compute to op kind left right ∷ lines) tail exit behind r is k h t u w =
@@ -515,6 +604,16 @@ module _ (functions : List Function) (statics first count frame : ℕ) (f : Func
       (λ e. alone_before needed j (Put x z) (user ∷ lines) tail exit behind r e (λ v. lines_before needed (suc j) (Compute to op kind left right ∷ lines) tail exit behind r is' k h' t' u v)
       (All-head (IsPlacedLine statics f) (Put x z) (user ∷ (lines ++ tail)) h) (All-head (LineThere functions) (Put x z) (user ∷ (lines ++ tail)) t) u w)
       (λ n e. folded_before needed j x z to op kind left right lines tail exit behind r n e is
+      (λ v. lines_before needed (suc (suc j)) lines tail exit behind r (behind_tail by needed (suc j) user (lines ++ tail) exit is') k (All-tail (IsPlacedLine statics f) user (lines ++ tail) h') (All-tail (LineThere functions) user (lines ++ tail) t') u v) u w)
+  lines_before needed j (Put x z ∷ Write place kind from access ∷ lines) tail exit behind r is k h t u w =
+      let user : Line = Write place kind from access in
+      let is' = behind_tail by needed j (Put x z) (user ∷ (lines ++ tail)) exit is in
+      let h' = All-tail (IsPlacedLine statics f) (Put x z) (user ∷ (lines ++ tail)) h in
+      let t' = All-tail (LineThere functions) (Put x z) (user ∷ (lines ++ tail)) t in
+      word_cases (word_taken (needed (suc j)) x (word z) user)
+      (λ e. alone_before needed j (Put x z) (user ∷ lines) tail exit behind r e (λ v. lines_before needed (suc j) (Write place kind from access ∷ lines) tail exit behind r is' k h' t' u v)
+      (All-head (IsPlacedLine statics f) (Put x z) (user ∷ (lines ++ tail)) h) (All-head (LineThere functions) (Put x z) (user ∷ (lines ++ tail)) t) u w)
+      (λ n e. stored_before needed j x z place kind from access lines tail exit behind r n e is
       (λ v. lines_before needed (suc (suc j)) lines tail exit behind r (behind_tail by needed (suc j) user (lines ++ tail) exit is') k (All-tail (IsPlacedLine statics f) user (lines ++ tail) h') (All-tail (LineThere functions) user (lines ++ tail) t') u v) u w)
   lines_before needed j (line ∷ lines) tail exit behind r is k h t u w =
       alone_before needed j line lines tail exit behind r refl
@@ -556,6 +655,13 @@ module _ (functions : List Function) (statics first count frame : ℕ) (f : Func
       subst (λ (c : List CodeLine). AreSound at c behind) (sym (lines_paired places m needed j x z to op kind left right lines (word z) d.line (e ∙ ap Some d.same) d.is))
       ((plain_sound at (plain_line d.line ∷ []) (scan at (lines_code places m needed None (suc (suc j)) lines) behind) ((immediate_way to op kind left (word z) d.line d.is, refl), tt)).0, rest)
 
+  stored_sound : (needed : ℕ → ℕ → Bool) (j x : ℕ) (z : ℤ) (place : Place) (kind : Kind) (from access : ℕ) (lines : List Line) (behind : After) (n : ℕ) → word_taken (needed (suc j)) x (word z) (Write place kind from access) ≡ Some n → AreSound at (lines_code places m needed None (suc (suc j)) lines) behind → AreSound at (lines_code places m needed None j (Put x z ∷ Write place kind from access ∷ lines)) behind
+  stored_sound needed j x z place kind from access lines behind n e rest =
+      let head : List CodeLine = line_code places (m (suc j)) (Write place kind 0 access) in
+      let ahead : List CodeLine = lines_code places m needed None (suc (suc j)) lines in
+      subst (λ (c : List CodeLine). AreSound at c behind) (sym (lines_stored places m needed j x z place kind from access lines n e))
+      (sound_append at head ahead behind (plain_sound at head (scan at ahead behind) (work_plain places (m (suc j)) (Write place kind 0 access) tt)) rest)
+
   pub lines_sound : (needed : ℕ → ℕ → Bool) (j : ℕ) (lines tail : List Line) (exit : Exit) (behind : After) → IsBehind by needed j (lines ++ tail) exit → ((s : ℕ) → IsUnsaved s → behind.next s ≡ true → lives_before live tail exit s ≡ true) → All (IsPlacedLine statics f) (lines ++ tail) → IsPlacedExit exit → All (LineThere functions) (lines ++ tail) → HoldsCalls live (lines ++ tail) exit → SavesFrom live m j (lines ++ tail) exit → AreSound at (lines_code places m needed None j lines) behind
   lines_sound needed j [] tail exit behind is k h e t s v = tt
   lines_sound needed j (Put x z ∷ Compute to op kind left right ∷ lines) tail exit behind is k h e t s v =
@@ -568,6 +674,17 @@ module _ (functions : List Function) (statics first count frame : ℕ) (f : Func
       (plain_sound at (line_code places (m j) (Put x z)) (scan at (lines_code places m needed None (suc j) (user ∷ lines)) behind) (work_plain places (m j) (Put x z) tt))
       (lines_sound needed (suc j) (Compute to op kind left right ∷ lines) tail exit behind is' k h' e t' s.1 v.1))
       (λ n a. folded_sound needed j x z to op kind left right lines behind n a
+      (lines_sound needed (suc (suc j)) lines tail exit behind (behind_tail by needed (suc j) user (lines ++ tail) exit is') k (All-tail (IsPlacedLine statics f) user (lines ++ tail) h') e (All-tail (LineThere functions) user (lines ++ tail) t') s.1.1 v.1.1))
+  lines_sound needed j (Put x z ∷ Write place kind from access ∷ lines) tail exit behind is k h e t s v =
+      let user : Line = Write place kind from access in
+      let is' = behind_tail by needed j (Put x z) (user ∷ (lines ++ tail)) exit is in
+      let h' = All-tail (IsPlacedLine statics f) (Put x z) (user ∷ (lines ++ tail)) h in
+      let t' = All-tail (LineThere functions) (Put x z) (user ∷ (lines ++ tail)) t in
+      word_cases (word_taken (needed (suc j)) x (word z) user)
+      (λ a. alone_sound needed j (Put x z) (user ∷ lines) behind a
+      (plain_sound at (line_code places (m j) (Put x z)) (scan at (lines_code places m needed None (suc j) (user ∷ lines)) behind) (work_plain places (m j) (Put x z) tt))
+      (lines_sound needed (suc j) (Write place kind from access ∷ lines) tail exit behind is' k h' e t' s.1 v.1))
+      (λ n a. stored_sound needed j x z place kind from access lines behind n a
       (lines_sound needed (suc (suc j)) lines tail exit behind (behind_tail by needed (suc j) user (lines ++ tail) exit is') k (All-tail (IsPlacedLine statics f) user (lines ++ tail) h') e (All-tail (LineThere functions) user (lines ++ tail) t') s.1.1 v.1.1))
   lines_sound needed j (line ∷ lines) tail exit behind is k h e t s v =
       let is' = behind_tail by needed j line (lines ++ tail) exit is in

@@ -22,7 +22,7 @@ use Rattle.im_block.specs.declared.code.Place.TheVariants.{Static, Local, Throug
 use Rattle.im_block.specs.declared.code.Line.{Line}
 use Rattle.im_block.specs.declared.code.Line.TheVariants.{Put, PutNull, Copy, Convert, Unary, Not, Compute, Compare, Move, Distance, Address, Read, Write, Reload, Spill, Cut, Call, Serve}
 use Rattle.im_alloc_relation.specs.Live.{uses, sets, place_uses}
-use Rattle.im_select.specs.Emitted.{high_of, low_of, constant_code, displaced_code, displaced_base, place_number, place_code, place_base, moved_code, copied_code, compared_code, shifted_code, step_op, shift_of, multiplied_code, shifts_code, scaled_code, pointer_code, based_code, address_code, computed_code, by_low, by_bits, negated, immediate_line, by_or, way_code, line_code}
+use Rattle.im_select.specs.Emitted.{high_of, low_of, constant_code, displaced_code, displaced_base, place_number, place_code, place_base, moved_code, copied_code, compared_code, shifted_code, step_op, shift_of, multiplied_code, shifts_code, scaled_code, pointer_code, based_code, address_code, computed_code, by_low, by_bits, negated, immediate_line, by_or, stored_from, way_code, line_code}
 use Rattle.im_saved_lines.specs.Scan.{way}
 use Rattle.im_saved_lines.proofs.Scanning.{IsUnsaved, unsaved_not, other_is, or_left, or_right, same_of, same_is, ArePlain, plain_append, Wants, wants_append}
 use Rattle.im_saved_lines.proofs.Plain.{operation_way, less_way, load_way, store_way, step_way, constant_plain, constant_wants, displaced_plain, displaced_wants, place_plain, place_wants}
@@ -144,6 +144,7 @@ way_plain at m passed (Some n) (Compute to op kind left right) work = by (immedi
     by : (o : Option Instruction) → immediate_line to op kind left n ≡ o → ArePlain (by_or (computed_code to op kind left right) o)
     by None e = ((operation_way op kind, refl), tt)
     by (Some l) e = ((immediate_way to op kind left n l e, refl), tt)
+way_plain at m passed before (Write place kind from access) work = work_plain at m (Write place kind (stored_from before from) access) work
 way_plain at m passed before line work = work_plain at m line work
 
 -- ---- what they want

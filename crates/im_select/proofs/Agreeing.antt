@@ -15,7 +15,7 @@ use Rattle.im_select.specs.Places.{at_of, HasPlaces}
 use Rattle.im_select_relation.specs.Symbolic.{Lines}
 use Rattle.im_select.specs.Selects.{Agrees}
 use Rattle.im_select.proofs.Low.{local_low}
-use Rattle.im_select.proofs.Selecting.{Words}
+use Rattle.im_select.proofs.Selecting.{Words, Sited}
 
 place_same : (names : Given) (w : Lines) → Agrees w names → (place : Place) → PlaceExists (length names.statics) names.function place → place_number (at_of names) place ≡ place_number w.at place
 place_same names w g (Static object offset) h = ap (λ z. z + offset) (sym (g.statics object h.0))
@@ -42,6 +42,10 @@ line_same names w m g (Cut cause) h = refl
 line_same names w m g (Call to i first count) h = refl
 line_same names w m g (Serve to service None) h = refl
 line_same names w m g (Serve to service (Some from)) h = refl
+
+pub sited_in : (names : Given) (w : Lines) → Agrees w names → (line : Line) → IsPlacedLine (length names.statics) names.function line → Sited (at_of names) w.at line
+sited_in names w g (Write place kind from access) h = place_same names w g place h.2
+sited_in names w g line h = tt
 
 place_low : (names : Given) → HasPlaces names → (place : Place) → PlaceExists (length names.statics) names.function place → place_number (at_of names) place < 2 ^ 32
 place_low names p (Static object offset) h =

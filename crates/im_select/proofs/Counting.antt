@@ -27,7 +27,7 @@ use Rattle.im_select.specs.Leads.{led}
 use Rattle.im_select.specs.declared.branching.Test.{Test}
 use Rattle.im_select.specs.declared.distance.Distance.{Distance}
 use Rattle.im_select.specs.declared.distance.Distance.TheVariants.{Near, Far}
-use Rattle.im_select.specs.Emitted.{high_of, low_of, constant_by, constant_code, displaced_by, displaced_code, displaced_base, step_op, adds_by, adds_code, place_number, place_code, place_base, moved_code, copied_code, shift_of, shifts_code, scaled_code, scaled_register, based_code, address_code, computed_code, immediate_line, passed_by, by_or, way_code, line_code, lines_code, behind_each, onward_code, test_code, test_or, taken_test, own_lines, is_next, branch_code, exit_code, is_empty, ended_code, block_code, Laying, leads_of, next_label, found_code, laid_block, laid_code, laid_order, kept_order, blocks_code, enter_code, prologue_code, function_code, labelled, entry_label}
+use Rattle.im_select.specs.Emitted.{high_of, low_of, constant_by, constant_code, displaced_by, displaced_code, displaced_base, step_op, adds_by, adds_code, place_number, place_code, place_base, moved_code, copied_code, shift_of, shifts_code, scaled_code, scaled_register, based_code, address_code, computed_code, immediate_line, passed_by, by_or, stored_from, way_code, line_code, lines_code, behind_each, onward_code, test_code, test_or, taken_test, own_lines, is_next, branch_code, exit_code, is_empty, ended_code, block_code, Laying, leads_of, next_label, found_code, laid_block, laid_code, laid_order, kept_order, blocks_code, enter_code, prologue_code, function_code, labelled, entry_label}
 use Rattle.im_select.proofs.Taking.{takes}
 use Rattle.im_select.proofs.Following.{led_words, kept_cost}
 use Rattle.im_select.proofs.Ordering.{cost_found, cost_in, order_cost}
@@ -136,6 +136,7 @@ way_few at m passed (Some n) (Compute to op kind left right) h = by (immediate_l
     by : (o : Option Instruction) → length (by_or (computed_code to op kind left right) o) + 1 ≤ with_cut (Compute to op kind left right)
     by None = omega arith
     by (Some l) = omega arith
+way_few at m passed before (Write place kind from access) h = few at m (Write place kind (stored_from before from) access) h
 way_few at m passed before line h = few at m line h
 
 -- a cut is paid by what stands behind it

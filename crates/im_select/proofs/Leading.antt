@@ -21,7 +21,7 @@ use Rattle.im_select.specs.Given.{Given}
 use Rattle.im_select.specs.declared.branching.Test.{Test}
 use Rattle.im_select.specs.declared.distance.Distance.{Distance}
 use Rattle.im_select.specs.declared.distance.Distance.TheVariants.{Near, Far}
-use Rattle.im_select.specs.Emitted.{constant_code, displaced_code, adds_code, place_number, place_code, copied_code, scaled_code, address_code, call_code, computed_code, immediate_line, passed_by, by_or, way_code, line_code, lines_code, behind_each, leave_code, result_code, onward_code, test_op, test_code, test_or, taken_test, own_lines, taking_code, is_next, branch_code, exit_code, is_empty, Laying, leads_of, next_label, found_code, laid_block, laid_code, laid_order, kept_order, blocks_code, enter_code, prologue_code, function_code, labelled, entry_label}
+use Rattle.im_select.specs.Emitted.{constant_code, displaced_code, adds_code, place_number, place_code, copied_code, scaled_code, address_code, call_code, computed_code, immediate_line, passed_by, by_or, stored_from, way_code, line_code, lines_code, behind_each, leave_code, result_code, onward_code, test_op, test_code, test_or, taken_test, own_lines, taking_code, is_next, branch_code, exit_code, is_empty, Laying, leads_of, next_label, found_code, laid_block, laid_code, laid_order, kept_order, blocks_code, enter_code, prologue_code, function_code, labelled, entry_label}
 use Rattle.im_select.specs.Leads.{led}
 use Rattle.im_select_relation.specs.Selected.{IsEntry}
 use Rattle.im_select.specs.Places.{CallsBelow}
@@ -96,6 +96,7 @@ way_sound names whole at m passed (Some n) (Compute to op kind left right) o h =
     by : (o : Option Instruction) → Sound names whole (by_or (computed_code to op kind left right) o)
     by None = bare names whole (computed_code to op kind left right) (refl, tt)
     by (Some l) = bare names whole (plain_line l ∷ []) (refl, tt)
+way_sound names whole at m passed before (Write place kind from access) o h = line_sound names whole at m (Write place kind (stored_from before from) access) o h
 way_sound names whole at m passed before line o h = line_sound names whole at m line o h
 
 lines_sound : (names : Given) (whole : List CodeLine) (at : Name → ℕ) (m : ℕ → ℕ) (needed : ℕ → ℕ → Bool) (before : Option ℕ) (j : ℕ) (lines : List Line) → ((j : ℕ) → IsEntry (m j)) → All (CallsBelow names.functions) lines → Sound names whole (lines_code at m needed before j lines)

@@ -16,6 +16,7 @@ use Rattle.im_block.specs.declared.unit.Function.{Function}
 use Rattle.im_block.specs.Wellformed.{ExitThere}
 use Rattle.im_alloc_placed.specs.Operands.{PlaceAtHome}
 use Rattle.im_alloc_placed.specs.Placed.{IsPlacedLine, IsPlacedExit, IsPlacedBlock}
+use Rattle.im_alloc_relation.specs.Live.{place_uses}
 use Rattle.im_live.specs.Reads.{lives_before}
 use Rattle.im_live.specs.Words.{has, PlaceBelow, IsMachineLine, IsMachineExit, IsMachineBlock, ArePoints, entry_at}
 use Rattle.im_live.specs.Entries.{entry_in, entries}
@@ -86,6 +87,7 @@ behind_is live block points j r p lt small =
 
 passed_alike : (p q : ℕ → Bool) (line : Line) (lines : List Line) → (0 < length lines → (r : ℕ) → r < 32 → p r ≡ q r) → IsMachineLine line → passed_by p line lines ≡ passed_by q line lines
 passed_alike p q (Put r z) (Compute to op kind left right ∷ rest) h m = ap (λ b. if right == r && (not (left == r || (not (r == to) && b)) && is_some (immediate_line to op kind left (word z))) then Some (word z) else None) (h (omega arith) r m)
+passed_alike p q (Put r z) (Write place kind from access ∷ rest) h m = ap (λ b. if word z == 0 && (from == r && not (place_uses place r || b)) then Some (word z) else None) (h (omega arith) r m)
 passed_alike p q (Put r z) (user ∷ rest) h m = refl
 passed_alike p q (Put r z) [] h m = refl
 passed_alike p q line lines h m = refl

@@ -19,10 +19,10 @@ use Rattle.im_select.specs.Leads.{led}
 use Rattle.im_select.specs.declared.branching.Test.{Test}
 use Rattle.im_select.specs.declared.distance.Distance.{Distance}
 use Rattle.im_select.specs.declared.distance.Distance.TheVariants.{Near, Far}
-use Rattle.im_select.specs.Emitted.{constant_code, displaced_code, adds_code, place_number, place_code, copied_code, scaled_code, address_code, computed_code, immediate_line, passed_by, by_or, way_code, line_code, lines_code, behind_each, onward_code, test_code, test_or, taken_test, own_lines, is_next, branch_code, exit_code, is_empty, block_code, Laying, leads_of, next_label, found_code, laid_block, laid_code, laid_order, kept_order, blocks_code, enter_code, prologue_code, function_code, labelled, entry_label}
+use Rattle.im_select.specs.Emitted.{constant_code, displaced_code, adds_code, place_number, place_code, copied_code, scaled_code, address_code, computed_code, immediate_line, passed_by, by_or, stored_from, way_code, line_code, lines_code, behind_each, onward_code, test_code, test_or, taken_test, own_lines, is_next, branch_code, exit_code, is_empty, block_code, Laying, leads_of, next_label, found_code, laid_block, laid_code, laid_order, kept_order, blocks_code, enter_code, prologue_code, function_code, labelled, entry_label}
 use Rattle.im_select.specs.Selects.{accesses_in, causes_in, causes_of_line, causes_of_lines, causes_of_blocks, if_found, blocks_at, laid_blocks}
 use Rattle.im_select.proofs.Following.{kept_accesses, kept_causes}
-use Rattle.im_select.proofs.Taking.{IsTaken, Nothing, Comparing, takes}
+use Rattle.im_select.proofs.Taking.{IsTaken, Nothing, Comparing, Zeroing, zero_line, takes}
 use Rattle.im_select.proofs.Plain.{constant_bare, displaced_bare, adds_bare, place_bare, copied_bare, scaled_bare, address_bare, accesses_append, causes_append, bare_accesses, bare_causes, accesses_behind, causes_behind, accesses_labelled, causes_labelled}
 
 line_accesses : (at : Name → ℕ) (m : ℕ) (line : Line) → accesses_in (line_code at m line) ≡ accesses_of_line line
@@ -100,6 +100,7 @@ way_accesses at m passed (Some n) (Compute to op kind left right) = by (immediat
     by : (o : Option Instruction) → accesses_in (by_or (computed_code to op kind left right) o) ≡ []
     by None = refl
     by (Some l) = refl
+way_accesses at m passed before (Write place kind from access) = line_accesses at m (Write place kind (stored_from before from) access)
 way_accesses at m passed before line = line_accesses at m line
 
 way_causes : (at : Name → ℕ) (m : ℕ) (passed before : Option ℕ) (line : Line) → causes_in (way_code at m passed before line) ≡ causes_of_line line
@@ -111,6 +112,7 @@ way_causes at m passed (Some n) (Compute to op kind left right) = by (immediate_
     by : (o : Option Instruction) → causes_in (by_or (computed_code to op kind left right) o) ≡ []
     by None = refl
     by (Some l) = refl
+way_causes at m passed before (Write place kind from access) = line_causes at m (Write place kind (stored_from before from) access)
 way_causes at m passed before line = line_causes at m line
 
 lines_accesses : (at : Name → ℕ) (m : ℕ → ℕ) (needed : ℕ → ℕ → Bool) (before : Option ℕ) (j : ℕ) (lines : List Line) → accesses_in (lines_code at m needed before j lines) ≡ accesses_of_lines lines
@@ -158,6 +160,7 @@ exit_accesses distance next bare first frame taken (Return (Some r)) = accesses_
 tail_accesses : (live : ℕ → ℕ → Bool) (lines tail : List Line) (exit : Exit) (taken : Option Test) → IsTaken live tail exit taken → accesses_of_lines lines ≡ accesses_of_lines (lines ++ tail)
 tail_accesses live [] tail exit taken (Nothing exit') = refl
 tail_accesses live [] tail exit taken (Comparing to op kind left right a b x y) = refl
+tail_accesses live [] tail exit taken (Zeroing line r to op kind left right a b zero x y z w) = zero_line (λ l. [] ≡ accesses_of_line l ++ []) line r zero (λ z. refl) refl
 tail_accesses live (line ∷ lines) tail exit taken t = ap (λ z. accesses_of_line line ++ z) (tail_accesses live lines tail exit taken t)
 
 block_accesses : (at : Name → ℕ) (m : ℕ → ℕ) (live : ℕ → ℕ → Bool) (leads : ℕ → ℕ) (distance : Distance) (next : Option ℕ) (first frame b : ℕ) (block : Block) → accesses_in (block_code at m live leads distance next first frame b block) ≡ accesses_of_lines block.lines.items
@@ -220,6 +223,7 @@ exit_causes distance next bare first frame taken (Return (Some r)) = causes_behi
 tail_causes : (live : ℕ → ℕ → Bool) (lines tail : List Line) (exit : Exit) (taken : Option Test) → IsTaken live tail exit taken → causes_of_lines lines ≡ causes_of_lines (lines ++ tail)
 tail_causes live [] tail exit taken (Nothing exit') = refl
 tail_causes live [] tail exit taken (Comparing to op kind left right a b x y) = refl
+tail_causes live [] tail exit taken (Zeroing line r to op kind left right a b zero x y z w) = zero_line (λ l. [] ≡ causes_of_line l ++ []) line r zero (λ z. refl) refl
 tail_causes live (line ∷ lines) tail exit taken t = ap (λ z. causes_of_line line ++ z) (tail_causes live lines tail exit taken t)
 
 block_causes : (at : Name → ℕ) (m : ℕ → ℕ) (live : ℕ → ℕ → Bool) (leads : ℕ → ℕ) (distance : Distance) (next : Option ℕ) (first frame b : ℕ) (block : Block) → causes_in (block_code at m live leads distance next first frame b block) ≡ causes_of_lines block.lines.items

@@ -14,14 +14,16 @@ use Rattle.im_select_operators.proofs.Words.{word_small}
 use Rattle.im_store.specs.declared.operators.BinaryOp.{BinaryOp}
 use Rattle.im_store.specs.declared.operators.BinaryOp.TheVariants.{Add, Subtract, Multiply, Divide, Remainder, BitAnd, BitOr, BitXor, ShiftLeft, ShiftRight}
 use Rattle.im_store.specs.Objects.{Name}
+use Rattle.im_block.specs.declared.code.Place.{Place}
 use Rattle.im_block.specs.declared.code.Line.{Line}
-use Rattle.im_block.specs.declared.code.Line.TheVariants.{Put, Compute}
+use Rattle.im_block.specs.declared.code.Line.TheVariants.{Put, Compute, Write}
 use Rattle.im_block.specs.declared.code.Exit.{Exit}
 use Rattle.im_block.specs.declared.code.Block.{Block}
+use Rattle.im_alloc_relation.specs.Live.{place_uses}
 use Rattle.im_live.specs.Reads.{lives_before, reads_first, IsLive}
 use Rattle.im_live.proofs.Paths.{lives_more}
-use Rattle.im_select_relation.specs.Selected.{Immediate, AddsBy, SubtractsBy, AndsBy, OrsBy, XorsBy, ShiftsLeftBy, ShiftsRightBy, IsSpent}
-use Rattle.im_select.specs.Emitted.{high_of, low_of, by_low, by_bits, negated, immediate_line, word_taken, passed_by, put_code, by_or, operated_code, computed_code, way_code, line_code, lines_code}
+use Rattle.im_select_relation.specs.Selected.{Immediate, AddsBy, SubtractsBy, AndsBy, OrsBy, XorsBy, ShiftsLeftBy, ShiftsRightBy, IsUnread, IsSpent}
+use Rattle.im_select.specs.Emitted.{high_of, low_of, by_low, by_bits, negated, immediate_line, word_taken, passed_by, put_code, by_or, operated_code, computed_code, stored_from, way_code, line_code, lines_code}
 use Rattle.im_select.proofs.Ordering.{same_number}
 use Rattle.im_select.proofs.Splitting.{low_whole}
 
@@ -44,7 +46,29 @@ lines_paired at m needed j r z to op kind left right rest n l e f =
     ap (λ (o : Option ℕ). put_code o r (word z) ++ (operated_code o to op kind left right ++ lines_code at m needed None (suc (suc j)) rest)) e
     ∙ ap (λ (o : Option Instruction). by_or (computed_code to op kind left right) o ++ lines_code at m needed None (suc (suc j)) rest) f
 
--- what makes them one
+-- a zero and the line that stores it
+pub lines_stored : (at : Name → ℕ) (m : ℕ → ℕ) (needed : ℕ → ℕ → Bool) (j r : ℕ) (z : ℤ) (place : Place) (kind : Kind) (from access : ℕ) (rest : List Line) (n : ℕ) → word_taken (needed (suc j)) r (word z) (Write place kind from access) ≡ Some n → lines_code at m needed None j (Put r z ∷ Write place kind from access ∷ rest) ≡ line_code at (m (suc j)) (Write place kind 0 access) ++ lines_code at m needed None (suc (suc j)) rest
+lines_stored at m needed j r z place kind from access rest n e =
+    ap (λ (o : Option ℕ). put_code o r (word z) ++ (line_code at (m (suc j)) (Write place kind (stored_from o from) access) ++ lines_code at m needed None (suc (suc j)) rest)) e
+
+-- what makes those one
+pub record Zeroes (lives : ℕ → Bool) (r n : ℕ) (place : Place) (from : ℕ) : Type 0 where
+  pub zero : n ≡ 0
+  pub from_is : from ≡ r
+  pub apart : place_uses place r ≡ false
+  pub unread : lives r ≡ false
+
+pub zeroes : (lives : ℕ → Bool) (r n : ℕ) (place : Place) (kind : Kind) (from access k : ℕ) → word_taken lives r n (Write place kind from access) ≡ Some k → Zeroes lives r n place from
+zeroes lives r n place kind from access k = by (n == 0) (from == r) (place_uses place r) (lives r) refl refl refl refl
+  where
+    by : (p q s t : Bool) → (n == 0) ≡ p → (from == r) ≡ q → place_uses place r ≡ s → lives r ≡ t → (if p && (q && not (s || t)) then Some n else None) ≡ Some k → Zeroes lives r n place from
+    by true true false false e f g h v = record { zero = same_number n 0 e; from_is = same_number from r f; apart = g; unread = h }
+    by true true false true e f g h v = absurd cc
+    by true true true t e f g h v = absurd cc
+    by true false s t e f g h v = absurd cc
+    by false q s t e f g h v = absurd cc
+
+-- what makes an operator and its constant one
 pub record Folds (lives : ℕ → Bool) (r n to : ℕ) (op : BinaryOp) (kind : Kind) (left right k : ℕ) : Type 0 where
   pub same : k ≡ n
   pub right_is : right ≡ r
@@ -109,10 +133,13 @@ immediate_of to Remainder kind left z l e = absurd cc
 
 -- ---- what doesn't live behind it is read on no path
 
+pub unread_in : (blocks : List Block) (live : ℕ → ℕ → Bool) (rest : List Line) (exit : Exit) (r : ℕ) → IsLive blocks live → r < 32 → lives_before live rest exit r ≡ false → IsUnread blocks rest exit r
+unread_in blocks live rest exit r is small e n = by (lives_before (reads_first blocks n) rest exit r) refl
+  where
+    by : (t : Bool) → lives_before (reads_first blocks n) rest exit r ≡ t → t ≡ false
+    by true h = let more = lives_more (reads_first blocks n) live r (λ b f. is.all b r n small f) rest exit h in let bad : true ≡ false = sym more ∙ e in cc
+    by false h = refl
+
 pub spent_in : (blocks : List Block) (live : ℕ → ℕ → Bool) (rest : List Line) (exit : Exit) (to r : ℕ) → IsLive blocks live → r < 32 → (r ≡ to) ⊎ (lives_before live rest exit r ≡ false) → IsSpent blocks rest exit to r
 spent_in blocks live rest exit to r is small (inl e) = inl e
-spent_in blocks live rest exit to r is small (inr e) = inr (λ n. by n (lives_before (reads_first blocks n) rest exit r) refl)
-  where
-    by : (n : ℕ) (t : Bool) → lives_before (reads_first blocks n) rest exit r ≡ t → t ≡ false
-    by n true h = let more = lives_more (reads_first blocks n) live r (λ b f. is.all b r n small f) rest exit h in let bad : true ≡ false = sym more ∙ e in cc
-    by n false h = refl
+spent_in blocks live rest exit to r is small (inr e) = inr (unread_in blocks live rest exit r is small e)

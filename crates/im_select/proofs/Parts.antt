@@ -9,31 +9,34 @@ use Rattle.im_rv.specs.Lines.{CodeLine, plain_line}
 use Rattle.im_rv_reach.specs.Instructions.{with_immediate, jumping}
 use Rattle.im_store.specs.declared.operators.BinaryOp.{BinaryOp}
 use Rattle.im_store.specs.Objects.{Name}
+use Rattle.im_block.specs.declared.code.Place.{Place}
 use Rattle.im_block.specs.declared.code.Line.{Line}
-use Rattle.im_block.specs.declared.code.Line.TheVariants.{Put, Compute, Compare}
+use Rattle.im_block.specs.declared.code.Line.TheVariants.{Put, Compute, Compare, Write}
 use Rattle.im_block.specs.declared.code.Block.{Block}
 use Rattle.im_block.specs.declared.code.Exit.{Exit}
 use Rattle.im_block.specs.declared.code.Exit.TheVariants.{Jump, Turn, Branch, Return}
 use Rattle.im_block.specs.declared.unit.Function.{Function}
 use Rattle.im_block.specs.Wellformed.{ExitThere}
+use Rattle.im_alloc_placed.specs.Operands.{PlaceAtHome}
 use Rattle.im_alloc_placed.specs.Placed.{IsPlacedLine, IsPlacedExit}
 use Rattle.im_select.specs.Leads.{lead, led}
-use Rattle.im_select_relation.specs.Selected.{IsEntry, IsDead}
-use Rattle.im_select_relation.specs.Symbolic.{Lines, Plain, Aimed, JumpsIn, ContinuesIn, Falls, Leaps, TestedIn, Reached, Missed, Hopped, Skipped, LeavesIn, ExitIn, Decides, FoldedIn, ComputesBy, StandsIn, SelectedIn, Around, PrologueIn}
+use Rattle.im_select_relation.specs.Selected.{IsEntry, IsDead, IsUnread, IsZero, ZeroNumber, ZeroPointer, or_zero}
+use Rattle.im_select_relation.specs.Symbolic.{Lines, Plain, Aimed, JumpsIn, ContinuesIn, Falls, Leaps, TestedIn, Reached, Missed, Hopped, Skipped, LeavesIn, ExitIn, Decides, DecidesByZero, FoldedIn, ComputesBy, StoresZero, StandsIn, SelectedIn, Around, PrologueIn}
+use Rattle.im_alloc_relation.specs.Live.{place_uses}
 use Rattle.im_live.specs.Reads.{lives_before, reads_first, IsLive}
 use Rattle.im_select.specs.declared.branching.Test.{Test}
-use Rattle.im_select.specs.declared.branching.Test.TheVariants.{Nonzero, Compares}
+use Rattle.im_select.specs.declared.branching.Test.TheVariants.{Nonzero, Compares, ComparesZero}
 use Rattle.im_select.specs.declared.distance.Distance.{Distance}
 use Rattle.im_select.specs.declared.distance.Distance.TheVariants.{Near, Far}
-use Rattle.im_select.specs.Emitted.{adds_code, leave_code, is_next, onward_code, both_ways, test_line, test_code, branch_code, exit_code, word_taken, passed_by, line_code, lines_code, enter_code, prologue_code}
+use Rattle.im_select.specs.Emitted.{adds_code, leave_code, is_next, onward_code, both_ways, test_line, test_code, branch_code, exit_code, word_taken, passed_by, place_number, place_code, keep_code, line_code, lines_code, enter_code, prologue_code}
 use Rattle.im_select.specs.Given.{Given}
 use Rattle.im_select.specs.Places.{CallsBelow}
 use Rattle.im_select.specs.Selects.{Agrees, block_label}
 use Rattle.im_select.proofs.Ordering.{same_number}
 use Rattle.im_select.proofs.Standing.{At, after, after_append, at_left, at_right}
-use Rattle.im_select.proofs.Taking.{IsTaken, Nothing, Comparing}
-use Rattle.im_select.proofs.Selecting.{Words, adds_in, selected_in}
-use Rattle.im_select.proofs.Pairing.{folds, immediate_of, lines_alone, lines_paired, spent_in}
+use Rattle.im_select.proofs.Taking.{IsTaken, Nothing, Comparing, Zeroing}
+use Rattle.im_select.proofs.Selecting.{Words, Sited, based_in, adds_in, selected_in}
+use Rattle.im_select.proofs.Pairing.{folds, immediate_of, lines_alone, lines_paired, lines_stored, zeroes, unread_in, spent_in}
 
 leaves_in : (w : Lines) (k frame : ℕ) → frame < 2 ^ 32 → At w k (leave_code frame) → LeavesIn w k frame
 leaves_in w k frame small a =
@@ -92,7 +95,7 @@ exit_in w given starts k distance next bare frame (Return (Some r)) g small h t 
 
 -- the code was made with a map of objects that gives each line the same as w's
 abbrev pub Alike : (Name → ℕ) → (Name → ℕ) → ℕ → Function → Type 0
-Alike own at statics f = (m : ℕ) (line : Line) → IsPlacedLine statics f line → (line_code own m line ≡ line_code at m line) × Words at line
+Alike own at statics f = (m : ℕ) (line : Line) → IsPlacedLine statics f line → (line_code own m line ≡ line_code at m line) × Words at line × Sited own at line
 
 -- what is asked of a block's lines and its exit
 pub record IsBlockOf (given : Given) (lines : List Line) (exit : Exit) : Type 0 where
@@ -119,6 +122,25 @@ taken_in w given live starts distance next bare k frame tail exit taken is g sma
     let p = All-head (IsPlacedLine (length given.statics) given.function) (Compare to op kind left right) [] h.placed in
     let low : to < 32 = p.0.1 in
     inr (inl (Decides to op kind left right x y p.1 p.2 p.3 (dead_from blocks live x to is low da) (dead_from blocks live y to is low db) (branch_in w given starts k distance next (Compares op kind left right) x y g h.edges.0 h.edges.1 follows a)))
+taken_in w given live starts distance next bare k frame tail exit taken is g small h (Zeroing line r to op kind left right x y zero sa sb da db) follows a =
+    let blocks : List Block = given.function.blocks.items in
+    let lines : List Line = Compare to op kind left right ∷ [] in
+    let p = All-head (IsPlacedLine (length given.statics) given.function) (Compare to op kind left right) [] (All-tail (IsPlacedLine (length given.statics) given.function) line lines h.placed) in
+    let low : to < 32 = p.0.1 in
+    let least : r < 32 = zero_home line r zero (All-head (IsPlacedLine (length given.statics) given.function) line lines h.placed) in
+    inr (inl (DecidesByZero line r to op kind left right x y zero p.1 p.2 p.3 (dead_from blocks live x r is least sa) (dead_from blocks live y r is least sb) (dead_from blocks live x to is low da) (dead_from blocks live y to is low db) (branch_in w given starts k distance next (ComparesZero op kind (or_zero r left) (or_zero r right)) x y g h.edges.0 h.edges.1 follows a)))
+  where
+    zero_home : (line : Line) (r : ℕ) → IsZero line r → IsPlacedLine (length given.statics) given.function line → r < 32
+    zero_home line r (ZeroNumber r' z e) p = p.1
+    zero_home line r (ZeroPointer r') p = p.1
+
+-- a store of zero
+stores_zero_in : (w : Lines) (blocks : List Block) (k m r : ℕ) (z : ℤ) (place : Place) (kind : Kind) (access : ℕ) (rest : List Line) (exit : Exit) → word z ≡ 0 → place_uses place r ≡ false → IsUnread blocks rest exit r → PlaceAtHome place → place_number w.at place < 2 ^ 32 → At w k (line_code w.at m (Write place kind 0 access)) → FoldedIn w blocks k (Put r z) (Write place kind r access) rest exit (after k (line_code w.at m (Write place kind 0 access)))
+stores_zero_in w blocks k m r z place kind access rest exit zero apart unread home small a =
+    let code : List CodeLine = place_code place (place_number w.at place) in
+    let s = at_right w k code _ a in
+    subst (FoldedIn w blocks k (Put r z) (Write place kind r access) rest exit) (sym (after_append k code _))
+    (StoresZero r z place kind access rest exit _ _ (after k code) zero apart unread (based_in w k place small home (at_left w k code _ a)) s.0)
 
 -- what lives behind the lines that are left: number j is the first of them
 abbrev pub IsBehind : (ℕ → ℕ → Bool) → (ℕ → ℕ → Bool) → ℕ → List Line → Exit → Type 0
@@ -186,6 +208,32 @@ module _ (w : Lines) (given : Given) (live : ℕ → ℕ → Bool) (starts : ℕ
         later (λ n e. ap (after k) (sym joined) ∙ follows n e) b.1,
       ))
 
+  stored : (j k r : ℕ) (z : ℤ) (place : Place) (kind : Kind) (from access : ℕ) (lines : List Line) (n : ℕ) → word_taken (needed (suc j)) r (word z) (Write place kind from access) ≡ Some n → IsBehind live needed j ((Put r z ∷ Write place kind from access ∷ lines) ++ tail) exit → IsBlockOf given ((Put r z ∷ Write place kind from access ∷ lines) ++ tail) exit → Goes (after k (line_code own (m (suc j)) (Write place kind 0 access))) (code (suc (suc j)) lines) (Stood (after k (line_code own (m (suc j)) (Write place kind 0 access))) lines) → Goes k (code j (Put r z ∷ Write place kind from access ∷ lines)) (Stood k (Put r z ∷ Write place kind from access ∷ lines))
+  stored j k r z place kind from access lines n e behind h later follows a =
+      let statics : ℕ = length given.statics in
+      let f : Function = given.function in
+      let blocks : List Block = f.blocks.items in
+      let user : Line = Write place kind from access in
+      let zeroed : Line = Write place kind 0 access in
+      let d = zeroes (needed (suc j)) r (word z) place kind from access n e in
+      let head : List CodeLine = line_code own (m (suc j)) zeroed in
+      let rest : List CodeLine = code (suc (suc j)) lines in
+      let joined : code j (Put r z ∷ user ∷ lines) ≡ head ++ rest = ap (λ x. x ++ last) (lines_stored own m needed j r z place kind from access lines n e) ∙ append_assoc head (lines_code own m needed None (suc (suc j)) lines) last in
+      let b : At w k (head ++ rest) = subst (At w k) joined a in
+      let put = All-head (IsPlacedLine statics f) (Put r z) (user ∷ (lines ++ tail)) h.placed in
+      let p = All-head (IsPlacedLine statics f) user (lines ++ tail) (All-tail (IsPlacedLine statics f) (Put r z) (user ∷ (lines ++ tail)) h.placed) in
+      let known = alike (m (suc j)) user p in
+      let same : head ≡ line_code w.at (m (suc j)) zeroed = ap (keep_code place kind 0 access) known.2 in
+      let dead : lives_before live (lines ++ tail) exit r ≡ false = (let q : 1 + j ≡ suc j = omega arith in sym (behind 1 r) ∙ ap (λ x. needed x r) q ∙ d.unread) in
+      let zero_in = stores_zero_in w blocks k (m (suc j)) r z place kind access (lines ++ tail) exit d.zero d.apart (unread_in blocks live (lines ++ tail) exit r is put.1 dead) p.1 known.1 (subst (At w k) same (at_left w k head rest b)) in
+      let here : FoldedIn w blocks k (Put r z) user (lines ++ tail) exit (after k head) =
+      subst (λ x. FoldedIn w blocks k (Put r z) (Write place kind x access) (lines ++ tail) exit (after k head)) (sym d.from_is) (subst (λ c. FoldedIn w blocks k (Put r z) (Write place kind r access) (lines ++ tail) exit (after k c)) (sym same) zero_in) in
+      inr (inr (
+        after k head,
+        here,
+        later (λ n e. sym (after_append k head rest) ∙ ap (after k) (sym joined) ∙ follows n e) (at_right w k head rest b),
+      ))
+
   pub stands_in : (j k : ℕ) (lines : List Line) → IsBehind live needed j (lines ++ tail) exit → IsBlockOf given (lines ++ tail) exit → Goes k (code j lines) (Stood k lines)
   stands_in j k [] behind h follows a = taken_in w given live starts distance next bare k frame tail exit taken is g small h t follows a
   stands_in j k (Put r z ∷ Compute to op kind left right ∷ lines) behind h follows a =
@@ -195,6 +243,13 @@ module _ (w : Lines) (given : Given) (live : ℕ → ℕ → Bool) (starts : ℕ
       word_cases (word_taken (needed (suc j)) r (word z) user)
       (λ e. alone j k (Put r z) (user ∷ lines) e h (λ follows b. stands_in (suc j) (after k (line_code own (m j) (Put r z))) (Compute to op kind left right ∷ lines) behind' h' follows b) follows a)
       (λ n e. folded j k r z to op kind left right lines n e behind h (λ follows b. stands_in (suc (suc j)) (suc k) lines (behind_tail live needed (suc j) user (lines ++ tail) exit behind') (tail_of given user (lines ++ tail) exit h') follows b) follows a)
+  stands_in j k (Put r z ∷ Write place kind from access ∷ lines) behind h follows a =
+      let user : Line = Write place kind from access in
+      let behind' = behind_tail live needed j (Put r z) (user ∷ (lines ++ tail)) exit behind in
+      let h' = tail_of given (Put r z) (user ∷ (lines ++ tail)) exit h in
+      word_cases (word_taken (needed (suc j)) r (word z) user)
+      (λ e. alone j k (Put r z) (user ∷ lines) e h (λ follows b. stands_in (suc j) (after k (line_code own (m j) (Put r z))) (Write place kind from access ∷ lines) behind' h' follows b) follows a)
+      (λ n e. stored j k r z place kind from access lines n e behind h (λ follows b. stands_in (suc (suc j)) (after k (line_code own (m (suc j)) (Write place kind 0 access))) lines (behind_tail live needed (suc j) user (lines ++ tail) exit behind') (tail_of given user (lines ++ tail) exit h') follows b) follows a)
   stands_in j k (line ∷ lines) behind h follows a =
       alone j k line lines refl h (λ follows b. stands_in (suc j) (after k (line_code own (m j) line)) lines (behind_tail live needed j line (lines ++ tail) exit behind) (tail_of given line (lines ++ tail) exit h) follows b) follows a
 

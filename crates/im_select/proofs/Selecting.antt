@@ -128,6 +128,11 @@ one_argument : (parameter : Option Kind) (from : ℕ) → from ≡ 10 → IsUnar
 one_argument None from e h = absurd h
 one_argument (Some kind) from e h = ap Some (sym e)
 
+-- the place that a store names is the same by two maps of objects
+abbrev pub Sited : (Name → ℕ) → (Name → ℕ) → Line → Type 0
+Sited own at (Write place kind from access) = place_number own place ≡ place_number at place
+Sited own at line = Unit {0}
+
 pub selected_in : (w : Lines) (given : Given) (k m : ℕ) → IsEntry m → Agrees w given → (line : Line) → IsPlacedLine (length given.statics) given.function line → CallsBelow given.functions line → Words w.at line → At w k (line_code w.at m line) → SelectedIn w k line (after k (line_code w.at m line))
 selected_in w given k m o g (Put to z) h c s a = Numbers to z _ h (constant_in w k to (word z) (word_small z) a)
 selected_in w given k m o g (PutNull to) h c s a = Nulls to h a.0

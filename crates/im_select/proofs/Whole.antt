@@ -19,7 +19,7 @@ use Rattle.im_select.proofs.Plain.{lead_at}
 use Rattle.im_select.proofs.Counting.{function_few}
 use Rattle.im_select.proofs.Naming.{function_accesses, function_causes}
 use Rattle.im_select.proofs.Leading.{IsKnown, function_lead, function_only, function_entry, function_blocks}
-use Rattle.im_select.proofs.Agreeing.{line_same, words_in}
+use Rattle.im_select.proofs.Agreeing.{line_same, words_in, sited_in}
 use Rattle.im_select.proofs.Machine.{all_at}
 
 entry_okay : (live : ℕ → ℕ → Bool) (block : Option Block) (j : ℕ) → IsEntry (entry_in live block j)
@@ -43,7 +43,7 @@ selection_of names i lines s e =
       selected = λ w t g.
           function_in w names e.live e.distance i o e.is_live g some small s.entry
           (λ b block t. (all_at (IsPlacedBlock (length names.statics) f) f.blocks.items b block s.placed.blocks t, closed b block t))
-          (λ n line h. (line_same names w n g line h, words_in names w s.places g line h))
+          (λ n line h. (line_same names w n g line h, words_in names w s.places g line h, sited_in names w g line h))
           (subst (At w 0) t (at_start w));
       accesses = function_accesses i laying;
       causes = function_causes i laying;

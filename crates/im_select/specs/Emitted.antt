@@ -24,12 +24,13 @@ use Rattle.im_block.specs.declared.code.Line.TheVariants.{Put, PutNull, Copy, Co
 use Rattle.im_block.specs.declared.code.Exit.{Exit}
 use Rattle.im_block.specs.declared.code.Exit.TheVariants.{Jump, Turn, Branch, Return}
 use Rattle.im_block.specs.declared.code.Block.{Block}
+use Rattle.im_alloc_relation.specs.Live.{place_uses}
 use Rattle.im_live.specs.Reads.{lives_before}
 use Rattle.im_live.specs.Words.{has}
 use Rattle.im_select.specs.Leads.{lead, led, kept}
-use Rattle.im_select_relation.specs.Selected.{ones, Test as BothWays, nonzero, comparing}
+use Rattle.im_select_relation.specs.Selected.{ones, Test as BothWays, nonzero, comparing, or_zero}
 use Rattle.im_select.specs.declared.branching.Test.{Test}
-use Rattle.im_select.specs.declared.branching.Test.TheVariants.{Nonzero, Compares}
+use Rattle.im_select.specs.declared.branching.Test.TheVariants.{Nonzero, Compares, ComparesZero}
 use Rattle.im_select.specs.declared.distance.Distance.{Distance}
 use Rattle.im_select.specs.declared.distance.Distance.TheVariants.{Near, Far}
 use Rattle.im_rtlib.specs.Routines.{service_label, stack_label, aimed, numbered}
@@ -247,10 +248,11 @@ immediate_line to ShiftLeft kind left n = by_bits Slli to left n
 immediate_line to ShiftRight kind left n = by_bits (by_sign kind Srai Srli) to left n
 immediate_line to op kind left n = None
 
--- the word that a line takes as its immediate from the line before it, which puts it into register r: nothing reads r behind the line.
--- lives: what lives there
+-- the word that a line takes from the line before it, which puts it into register r: as its immediate, or 0 by x0. Nothing reads r behind
+-- the line. lives: what lives there
 abbrev pub word_taken : (ℕ → Bool) → ℕ → ℕ → Line → Option ℕ
 word_taken lives r n (Compute to op kind left right) = if right == r && (not (left == r || (not (r == to) && lives r)) && is_some (immediate_line to op kind left n)) then Some n else None
+word_taken lives r n (Write place kind from access) = if n == 0 && (from == r && not (place_uses place r || lives r)) then Some n else None
 word_taken lives r n line = None
 
 -- lives: what lives behind the first of these lines
@@ -277,10 +279,16 @@ abbrev pub operated_code : Option ℕ → ℕ → BinaryOp → Kind → ℕ → 
 operated_code None to op kind left right = computed_code to op kind left right
 operated_code (Some n) to op kind left right = by_or (computed_code to op kind left right) (immediate_line to op kind left n)
 
+-- the register that is stored, or x0 for a zero that the line before it passed
+abbrev pub stored_from : Option ℕ → ℕ → ℕ
+stored_from None from = from
+stored_from (Some n) from = 0
+
 -- passed: the word that the line passes to the next; before: the one that the line before passed to it
 abbrev pub way_code : (Name → ℕ) → ℕ → Option ℕ → Option ℕ → Line → List CodeLine
 way_code at m passed before (Put to number) = put_code passed to (word number)
 way_code at m passed before (Compute to op kind left right) = operated_code before to op kind left right
+way_code at m passed before (Write place kind from access) = line_code at m (Write place kind (stored_from before from) access)
 way_code at m passed before line = line_code at m line
 
 -- lines from number j on; m: the entries of a block's lines; needed: what lives behind each; before: what the line before them passed
@@ -315,6 +323,7 @@ onward_code false label = call_code 0 label
 abbrev pub both_ways : Test → BothWays
 both_ways (Nonzero on) = nonzero on
 both_ways (Compares op kind left right) = comparing kind left right op
+both_ways (ComparesZero op kind left right) = comparing kind left right op
 
 abbrev pub test_op : Bool → Test → Op
 test_op holds t = if holds then (both_ways t).holds else (both_ways t).fails
@@ -354,10 +363,22 @@ abbrev pub taken_by : (ℕ → ℕ → Bool) → Line → Exit → Option Test
 taken_by live (Compare to op kind left right) (Branch on a b) = if on == to && not (live a to || live b to) then Some (Compares op kind left right) else None
 taken_by live line exit = None
 
+-- the register that a line sets to a value whose word is 0, if it does
+abbrev pub zero_of : Line → Option ℕ
+zero_of (Put to number) = if word number == 0 then Some to else None
+zero_of (PutNull to) = Some to
+zero_of line = None
+
+-- a comparison with a zero that is put before it into register r, which no block reads: x0 stands for that
+abbrev pub by_zero : (ℕ → ℕ → Bool) → Option ℕ → Option Test → Exit → Option Test
+by_zero live (Some r) (Some (Compares op kind left right)) (Branch on a b) = Some (if live a r || live b r then Compares op kind left right else ComparesZero op kind (or_zero r left) (or_zero r right))
+by_zero live before taken exit = taken
+
 abbrev pub taken_test : (ℕ → ℕ → Bool) → List Line → Exit → Option Test
 taken_test live [] exit = None
 taken_test live (line ∷ []) exit = taken_by live line exit
-taken_test live (line ∷ next ∷ rest) exit = taken_test live (next ∷ rest) exit
+taken_test live (line ∷ next ∷ []) exit = by_zero live (zero_of line) (taken_by live next exit) exit
+taken_test live (line ∷ next ∷ more ∷ rest) exit = taken_test live (next ∷ more ∷ rest) exit
 
 abbrev pub but_last : List Line → List Line
 but_last [] = []
@@ -367,6 +388,7 @@ but_last (line ∷ next ∷ rest) = line ∷ but_last (next ∷ rest)
 -- the lines that the exit doesn't take
 abbrev pub own_lines : Option Test → List Line → List Line
 own_lines None lines = lines
+own_lines (Some (ComparesZero op kind left right)) lines = but_last (but_last lines)
 own_lines (Some t) lines = but_last lines
 
 -- the first line has a label

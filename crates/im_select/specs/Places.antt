@@ -10,7 +10,7 @@ use Rattle.im_frame.specs.Layout.{IsLayout}
 use Rattle.im_select.specs.Given.{Given}
 use Rattle.im_select.specs.declared.words.Displaced.{Displaced}
 use Rattle.im_select.specs.declared.branching.Test.{Test}
-use Rattle.im_select.specs.declared.branching.Test.TheVariants.{Nonzero, Compares}
+use Rattle.im_select.specs.declared.branching.Test.TheVariants.{Nonzero, Compares, ComparesZero}
 use Rattle.im_select.specs.Emitted.{low_of, entry_label}
 
 -- the place of an object, by its name: a static's in memory, another's in the frame
@@ -36,6 +36,7 @@ CallsBelow functions line = Unit {0}
 abbrev pub IsTest : Test → Type 0
 IsTest (Nonzero on) = on < 32
 IsTest (Compares op kind left right) = (left < 32) × (right < 32)
+IsTest (ComparesZero op kind left right) = (left < 32) × (right < 32)
 
 -- a register and an offset of 12 bits, the low part of a number
 pub record IsDisplaced (d : Displaced) (base n : ℕ) : Type 0 where

@@ -5,18 +5,20 @@ ghost use Rattle.im_rv.specs.Formats.{format_of};
 ghost use Rattle.im_rv.specs.Lines.{code_lines, line_of};
 ghost use Rattle.im_block.specs.declared.code.Line.TheVariants.{Put};
 ghost use Rattle.im_alloc_placed.specs.Placed.{IsPlacedLine};
+ghost use Rattle.im_alloc_relation.specs.Live.{place_uses};
 ghost use Rattle.im_live.specs.Words.{has, IsMachineLine};
 ghost use Rattle.im_select.specs.Given.{given};
 ghost use Rattle.im_select.specs.Places.{at_of, HasPlaces, CallsBelow};
-ghost use Rattle.im_select.specs.Emitted.{by_low, by_bits, negated, immediate_line, word_taken, passed_by, put_code, operated_code, way_code, behind_at};
+ghost use Rattle.im_select.specs.Emitted.{by_low, by_bits, negated, immediate_line, word_taken, passed_by, put_code, operated_code, stored_from, way_code, behind_at};
 
 use crate::branching::lives;
 use crate::computing::{by_sign, push_computed};
 use crate::lines::push_line;
+use crate::memory::push_write;
 use crate::names::Names;
 use crate::push::{push, with_immediate};
 use crate::words::{high_part, low_part, push_constant, register, to_word};
-use im_block::Line as Placed;
+use im_block::{Line as Placed, Place};
 use im_num::{Kind, NoMemory};
 use im_rv::{Instr, Line, Op};
 use im_store::BinaryOp;
@@ -75,8 +77,19 @@ fn immediate(to: u32, op: BinaryOp, kind: Kind, left: u32, word: u32) -> Option<
     }
 }
 
-/// The word that a line takes as its immediate from the line before it, which puts it into a
-/// register: where nothing reads that behind the line. `behind` has the registers that live there.
+/// Whether a place is behind a pointer in a register.
+fn place_uses(place: Place, register: u32) -> bool
+    ensures { result ≡ place_uses place register }
+{
+    match place {
+        Place::Static { .. } | Place::Local { .. } => false,
+        Place::Through { pointer, .. } => register == pointer,
+    }
+}
+
+/// The word that a line takes from the line before it, which puts it into a register: as its
+/// immediate, or a stored 0 by x0, where nothing reads that register behind the line. `behind` has
+/// the registers that live there.
 fn word_taken(behind: u32, constant: u32, word: u32, user: Placed) -> Option<u32>
     requires constant { constant < 32 }
     requires machine { IsMachineLine user }
@@ -97,12 +110,19 @@ fn word_taken(behind: u32, constant: u32, word: u32, user: Placed) -> Option<u32
                 None
             }
         }
+        Placed::Write { place, from, .. } => {
+            let read = place_uses(place, constant) || lives(behind, constant);
+            if word == 0 && from == constant && !read {
+                Some(word)
+            } else {
+                None
+            }
+        }
         _ => None,
     }
 }
 
-/// What a line passes to the next, if there is one: the word of a constant that it takes as its
-/// immediate. `behind` has the registers that live behind the next.
+/// What a line passes to the next, if there is one: the word of a constant that it takes. `behind` has the registers that live behind the next.
 fn passed_on(behind: u32, line: Placed, user: Placed) -> Option<u32>
     requires line { IsMachineLine line }
     requires user { IsMachineLine user }
@@ -172,6 +192,18 @@ fn push_operated(
     push_computed(lines, to, op, kind, left, right)
 }
 
+/// The register that is stored, or x0 for a zero that the line before it passed.
+fn stored_from(before: Option<u32>, from: u32) -> u32
+    requires { from < 32 }
+    ensures value { result ≡ stored_from before from }
+    ensures small { result < 32 }
+{
+    match before {
+        Some(_) => 0,
+        None => from,
+    }
+}
+
 /// The lines of one line of placed code, which passes a word to the next and takes one of the line
 /// before it. A cut has the entry.
 pub(crate) fn push_way(
@@ -197,6 +229,12 @@ pub(crate) fn push_way(
             left,
             right,
         } => { push_operated(lines, before, to, op, kind, left, right) }
+        Placed::Write {
+            place,
+            kind,
+            from,
+            access,
+        } => { push_write(lines, names, place, kind, stored_from(before, from), access) }
         _ => push_line(lines, names, entry, line),
     }
 }

@@ -150,7 +150,7 @@ pub(crate) fn push_write(
     from: u32,
     access: u64,
 ) -> Result<(), NoMemory>
-    requires from { IsHome from }
+    requires from { from < 32 }
     requires places { HasPlaces (given names.now) }
     requires there { PlaceExists (length names.now.statics.now) names.now.function.now place }
     requires home { PlaceAtHome place }

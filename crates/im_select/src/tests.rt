@@ -1,13 +1,14 @@
-ghost use Rattle.std.specs.Prelude.{◌≡◌, ◌≤◌, [], length, IfOk};
+ghost use Rattle.std.specs.Prelude.{◌≡◌, ◌<◌, ◌≤◌, [], length, IfOk, IfSome};
 ghost use Rattle.im_frame.specs.Layout.{bytes_of};
+ghost use Rattle.im_live.specs.Words.{IsMachineLine};
 ghost use Rattle.im_select_operators.specs.Tables.{IsPromoted};
 ghost use Rattle.im_select_relation.specs.Selected.{IsHome};
 ghost use Rattle.im_select.specs.Places.{IsTest};
 
-use crate::branching::{Test, branch_by};
+use crate::branching::{Test, branch_by, taken_test};
 use crate::lines::push_lines;
 use crate::names::Names;
-use im_block::{Function, Line, Object, Place, Registers};
+use im_block::{Exit, Function, Line, Object, Place, Registers};
 use im_frame::lay_out;
 use im_num::{Cause, Kind};
 use im_rv::encode::encode;
@@ -414,5 +415,137 @@ fn branches_are_those_of_the_assembler(rt: HostRuntime) -> Result<(), Fail> {
         (signed, unsigned, equal, nonzero),
         (true, true, true, true)
     );
+    Ok(())
+}
+
+// The test that a branch takes of a comparison in x13 behind a constant in x12, where these
+// registers live at both of its blocks.
+fn taken_of(
+    live: u32,
+    constant: Line,
+    op: Comparison,
+    kind: Kind,
+    left: u32,
+    right: u32,
+) -> Option<Test>
+    requires constant { IsMachineLine constant }
+    requires left { left < 32 }
+    requires right { right < 32 }
+    ensures { IfSome result IsTest }
+{
+    let lines = [
+        constant,
+        Line::Compare {
+            to: 13,
+            op,
+            kind,
+            left,
+            right,
+        },
+    ];
+    let exit = Exit::Branch {
+        on: 13,
+        holds: 0,
+        fails: 1,
+    };
+    taken_test(&[live, live], &lines, exit)
+}
+
+// Whether it is these branches.
+fn are_taken(taken: Option<Test>, holds: u32, fails: u32) -> bool
+    requires { IfSome taken IsTest }
+{
+    match taken {
+        Some(test) => are_branches(test, holds, fails),
+        None => false,
+    }
+}
+
+// By llvm-mc: x0 in the place of a zero that nothing else reads.
+#[test]
+fn zeros_are_compared_as_x0(rt: HostRuntime) -> Result<(), Fail> {
+    let (int, unsigned) = (Kind::I32, Kind::U32);
+    let zero = Line::Put { to: 12, number: 0 };
+    let null = Line::PutNull { to: 12 };
+    let right = are_taken(
+        taken_of(0, zero, Comparison::Greater, int, 10, 12),
+        0x00a04463,
+        0x00a05463,
+    ) && are_taken(
+        taken_of(0, zero, Comparison::GreaterOrEqual, int, 10, 12),
+        0x00055463,
+        0x00054463,
+    );
+    let left = are_taken(
+        taken_of(0, zero, Comparison::Less, unsigned, 12, 10),
+        0x00a06463,
+        0x00a07463,
+    );
+    let pointer = are_taken(
+        taken_of(0, null, Comparison::Equal, Kind::Ptr, 10, 12),
+        0x00050463,
+        0x00051463,
+    );
+    let one = Line::Put { to: 12, number: 1 };
+    let other = are_taken(
+        taken_of(0x1000, zero, Comparison::Less, int, 10, 12),
+        0x00c54463,
+        0x00c55463,
+    ) && are_taken(
+        taken_of(0, one, Comparison::Less, int, 10, 12),
+        0x00c54463,
+        0x00c55463,
+    );
+    assert_eq!(rt; (right, left, pointer, other), (true, true, true, true));
+    Ok(())
+}
+
+// Whether a constant in x12 and its store behind a pointer are these words, where these registers
+// live behind.
+fn are_stored(
+    alloc: Global,
+    behind: u32,
+    number: i128,
+    pointer: u32,
+    words: &[u32],
+) -> Result<bool, Fail>
+    requires { IsHome pointer }
+{
+    let function = sample(alloc)?;
+    let layout = lay_out(alloc, &function)?;
+    let names = Names {
+        statics: &[0x100000],
+        functions: 1,
+        function: &function,
+        layout: &layout,
+        first_block: 65,
+    };
+    let placed = [
+        Line::Put { to: 12, number },
+        Line::Write {
+            place: Place::Through { pointer, offset: 0 },
+            kind: Kind::I32,
+            from: 12,
+            access: 1,
+        },
+    ];
+    let mut lines = Vec::new(alloc);
+    push_lines(&mut lines, &names, &[0, 0, behind], &placed)?;
+    let mut same = lines.len() == words.len();
+    for (line, word) in lines.iter().zip(words) {
+        same = same && encode(line.instr) == *word;
+    }
+    Ok(same)
+}
+
+// By llvm-mc: a zero that is stored, read elsewhere too, stored behind itself; another number.
+#[test]
+fn zeros_are_stored_from_x0(rt: HostRuntime) -> Result<(), Fail> {
+    let alloc = rt.alloc();
+    let zero = are_stored(alloc, 0, 0, 17, &[0x0008a023])?;
+    let read = are_stored(alloc, 0x1000, 0, 17, &[0x00000613, 0x00c8a023])?;
+    let behind = are_stored(alloc, 0, 0, 12, &[0x00000613, 0x00c62023])?;
+    let one = are_stored(alloc, 0, 1, 17, &[0x00100613, 0x00c8a023])?;
+    assert_eq!(rt; (zero, read, behind, one), (true, true, true, true));
     Ok(())
 }

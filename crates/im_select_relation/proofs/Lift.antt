@@ -15,9 +15,9 @@ use Rattle.im_block.specs.declared.code.Exit.{Exit}
 use Rattle.im_block.specs.declared.code.Exit.TheVariants.{Jump, Turn, Branch, Return}
 use Rattle.im_block.specs.declared.code.Block.{Block}
 use Rattle.im_select_relation.specs.Linking.{Linking, frame_of}
-use Rattle.im_select_relation.specs.Selected.{Constant, Displaced, Based, Adds, Compared, Copied, Converted, Scaled, Selected, Jumps, Continues, Test, nonzero, comparing, Tested, Leaves, ExitAt, Joined, Folded, Stands, Checked, Prologue}
+use Rattle.im_select_relation.specs.Selected.{Constant, Displaced, Based, Adds, Compared, Copied, Converted, Scaled, Selected, Jumps, Continues, Test, nonzero, comparing, or_zero, Tested, Leaves, ExitAt, Joined, Folded, Stands, Checked, Prologue}
 use Rattle.im_select_relation.specs.Selected as linked
-use Rattle.im_select_relation.specs.Symbolic.{Lines, HasLine, ConstantIn, Small, Large, DisplacedIn, Near, Far, BasedIn, InFrame, InStatic, Behind, AddsIn, Short, Long, ComparedIn, Lesser, Larger, NotLarger, NotLesser, Same, Other, CopiedIn, Already, Moved, ConvertedIn, Whole, Masked, Narrowed, ScaledIn, Bytes, Shifted, Multiplied, SelectedIn, Numbers, Nulls, Copies, Converts, Negates, Complements, Nots, Computes, Compares, Moves, Measures, Addresses, AddressesPage, Fetches, StoresValue, Reloads, Spills, Cuts_, Calls, Serves_, JumpsIn, ContinuesIn, Falls, Leaps, TestedIn, Reached, Missed, Hopped, Skipped, LeavesIn, ExitIn, JoinedIn, Decides, FoldedIn, ComputesBy, StandsIn, CheckedIn, Direct, Around, PrologueIn, spot_of, distance, IsLaid, LinesLaw, FrameLaw}
+use Rattle.im_select_relation.specs.Symbolic.{Lines, HasLine, ConstantIn, Small, Large, DisplacedIn, Near, Far, BasedIn, InFrame, InStatic, Behind, AddsIn, Short, Long, ComparedIn, Lesser, Larger, NotLarger, NotLesser, Same, Other, CopiedIn, Already, Moved, ConvertedIn, Whole, Masked, Narrowed, ScaledIn, Bytes, Shifted, Multiplied, SelectedIn, Numbers, Nulls, Copies, Converts, Negates, Complements, Nots, Computes, Compares, Moves, Measures, Addresses, AddressesPage, Fetches, StoresValue, Reloads, Spills, Cuts_, Calls, Serves_, JumpsIn, ContinuesIn, Falls, Leaps, TestedIn, Reached, Missed, Hopped, Skipped, LeavesIn, ExitIn, JoinedIn, Decides, DecidesByZero, FoldedIn, ComputesBy, StoresZero, StandsIn, CheckedIn, Direct, Around, PrologueIn, spot_of, distance, IsLaid, LinesLaw, FrameLaw}
 
 lands : (pc target : ℕ) → pc + 4 ≤ 1048576 → target < 2 ^ 32 → sum_of pc (distance pc target) ≡ target
 lands pc target a b = omega arith
@@ -146,9 +146,11 @@ exits p i w place starts l frame k (Return (Some r)) h = (h.0, leaves p i w plac
 
 joined : (p : Linking) (i : ℕ) (w : Lines) (place starts : ℕ → ℕ) → IsLaid p i w place starts → (blocks : List Block) (k : ℕ) (line : Line) (rest : List Line) (exit : Exit) → JoinedIn w blocks starts k line rest exit → Joined p blocks i (spot_of (p.entry i) k) line rest exit
 joined p i w place starts l blocks k line rest exit (Decides to op kind left right a b x y h c d t) = linked.Decides to op kind left right a b x y h c d (tested p i w place starts l k (comparing kind left right op) a b t)
+joined p i w place starts l blocks k line rest exit (DecidesByZero zero r to op kind left right a b is x y h c d e f t) = linked.DecidesByZero zero r to op kind left right a b is x y h c d e f (tested p i w place starts l k (comparing kind (or_zero r left) (or_zero r right) op) a b t)
 
 folded : (p : Linking) (i : ℕ) (w : Lines) (place starts : ℕ → ℕ) → IsLaid p i w place starts → (blocks : List Block) (k : ℕ) (line user : Line) (rest : List Line) (exit : Exit) (next : ℕ) → FoldedIn w blocks k line user rest exit next → Folded p blocks (spot_of (p.entry i) k) line user rest exit (spot_of (p.entry i) next)
 folded p i w place starts l blocks k line user rest exit next (ComputesBy r z to op kind left rest' exit' by imm home x ne h is spent a) = linked.ComputesBy r z to op kind left rest' exit' by imm home x ne h is spent (plain p i w place starts l k _ None None a)
+folded p i w place starts l blocks k line user rest exit next (StoresZero r z at kind access rest' exit' base imm mid zero apart unread b a) = linked.StoresZero r z at kind access rest' exit' base imm (spot_of (p.entry i) mid) zero apart unread (based p i w place starts l k at base imm mid b) (plain p i w place starts l mid _ (Some access) None a)
 
 stands : (p : Linking) (i : ℕ) (w : Lines) (place starts : ℕ → ℕ) → IsLaid p i w place starts → (blocks : List Block) (frame k : ℕ) (lines : List Line) (exit : Exit) → StandsIn w blocks starts frame k lines exit → Stands p blocks i frame (spot_of (p.entry i) k) lines exit
 stands p i w place starts l blocks frame k [] exit h = exits p i w place starts l frame k exit h

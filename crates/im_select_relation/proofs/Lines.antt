@@ -16,10 +16,10 @@ use Rattle.im_rv_reach.specs.Touches.{Flipped, Touch, heard}
 use Rattle.im_rv_reach.specs.Shown.{shown, left}
 use Rattle.im_rv_reach.specs.Plain.{returns_by}
 use Rattle.im_rv_reach.specs.Reach.{plus}
-use Rattle.im_rv_reach.specs.Instructions.{Holds, with_immediate, on_registers, upper, jumping}
+use Rattle.im_rv_reach.specs.Instructions.{Holds, with_immediate, on_registers, storing, upper, jumping}
 use Rattle.im_rv_reach.specs.Routines.{Done, Called}
 use Rattle.im_rv_reach.proofs.Reach.{join, next_pc, no_back, leaps}
-use Rattle.im_select_operators.specs.Tables.{IsPromoted, by_sign, operation}
+use Rattle.im_select_operators.specs.Tables.{IsPromoted, by_sign, store_op, operation}
 use Rattle.im_select_operators.proofs.Words.{word_small}
 use Rattle.im_select_operators.proofs.Arithmetic.{negated_word}
 use Rattle.im_select_operators.proofs.Division.{complemented_word}
@@ -35,13 +35,14 @@ use Rattle.im_store.specs.Numbers.{apply_one, compares}
 use Rattle.im_store.specs.Objects.{Slot, Link, Value, Number, Null, Pointer, Shape, Store, same_kind}
 use Rattle.im_serve.specs.declared.service.Service.{Service}
 use Rattle.im_serve.specs.Services.{Reply, row, IsNullary, IsUnary, serve}
+use Rattle.im_block.specs.declared.code.Place.{Place}
 use Rattle.im_block.specs.declared.code.Place.TheVariants.{Static}
 use Rattle.im_block.specs.declared.code.Line.{Line}
 use Rattle.im_block.specs.declared.code.Line.TheVariants.{Cut, Serve}
 use Rattle.im_block.specs.declared.unit.Unit.{Unit as Code}
-use Rattle.im_block.specs.Meaning.{Setting, State, Next, Goes, Stops, Serves, Cuts, Active, object_of, with_register, with_rest, kept_by, does, place_of, computed, computed_one, moved, distance_of, negation, condition, compared, converted, pointer_of, slot_of, slot_shape, read_place, write_place, read_slot, write_slot, site_of, slot_site, number_of, argument, Location, as_number, as_truth, computes}
+use Rattle.im_block.specs.Meaning.{Setting, State, Next, Goes, Stops, Serves, Cuts, Active, object_of, with_register, with_rest, kept_by, does, place_of, computed, computed_one, moved, distance_of, negation, condition, compared, converted, pointer_of, slot_of, slot_shape, read_place, write_place, read_slot, write_slot, site_of, slot_site, number_of, argument, Location, as_number, as_truth, computes, writes}
 use Rattle.im_select_relation.specs.Linking.{Linking, pointer_at, frame_of, runtime, Means}
-use Rattle.im_select_relation.specs.Selected.{IsHome, IsEntry, ones, Immediate, AddsBy, SubtractsBy, AndsBy, OrsBy, XorsBy, ShiftsLeftBy, ShiftsRightBy, Already, Moved, Selected, Numbers, Nulls, Copies, Converts, Negates, Complements, Nots, Computes, Compares, Moves, Measures, Addresses, AddressesPage, Fetches, StoresValue, Reloads, Spills, Cuts_, Calls, Serves_, argument_register, Stands, Displaced}
+use Rattle.im_select_relation.specs.Selected.{IsHome, IsEntry, ones, Immediate, AddsBy, SubtractsBy, AndsBy, OrsBy, XorsBy, ShiftsLeftBy, ShiftsRightBy, Already, Moved, Selected, Numbers, Nulls, Copies, Converts, Negates, Complements, Nots, Computes, Compares, Moves, Measures, Addresses, AddressesPage, Fetches, StoresValue, Reloads, Spills, Cuts_, Calls, Serves_, argument_register, Stands, Displaced, Based}
 use Rattle.im_block.specs.Shape.{narrowing, line_weight}
 use Rattle.im_select_relation.specs.Law.{Touches, Nothing, Serving, Cutting, steps}
 use Rattle.im_select_relation.proofs.Registers.{RegsMean, means_at, only_result}
@@ -270,6 +271,14 @@ folded_after p u g s c m r z to op kind left rest by imm home a k is h code =
     (gave_weak m c.pc c.x to (word t.a) (c.pc + 4) 1 (1 + narrowing kind) (omega arith) (gave_one p.image m c.pc c.x (with_immediate by to left imm) (word t.a) (let q = home.0 in omega arith) r.fixed h
     (immediate_row z kind op by imm c.pc (c.x left) (c.x 0) is ∙ computed_row p op kind (s.frame.registers left) (Number z) (c.x left) (word z) t.a c.pc 0 k t.first (r.regs.homes left a.0) refl) (immediate_on z kind op by imm is))) code
     (λ v' e'. subst (λ q. Means p q (word t.a)) (fine_is (Number t.a) v t.second ∙ fine_is v v' e') refl))
+
+-- a store of zero
+pub stored_after : (p : Linking) (u : Code) (g : Setting) → Premises p u g → (s : State) (c : Cpu) (m : Mem) (r : Rel p u g s c m) (z : ℤ) (place : Place) (kind : Kind) (access : ℕ) (rest : List Line) (base imm mid : ℕ) → word z ≡ 0 → Based p c.pc place base imm mid → Holds p.image mid (storing (store_op kind) base 0 imm) → Stands p r.f.blocks.items s.frame.function (frame_of g s.frame.function) (mid + 4) rest s.frame.spot.exit → After p u g s.fuel 3 c m (writes (site_of access kind) (write_place place kind (Number z) s.frame.active s.frame.registers s.store) rest s)
+stored_after p u g l s c m r z place kind access rest base imm mid nought based_ h code =
+    let b = based p s.frame.registers s.frame.active s.store _ m c.pc c.x place base imm mid (let d = r.ordered.0 in let q = l.at.stack in omega arith) l.at.near r.linked.0 r.fixed r.mapped r.regs based_ in
+    writes_after p u g l.at.first s c m r 0 b.w base imm mid kind (site_of access kind) (write_place place kind (Number z) s.frame.active s.frame.registers s.store) rest (omega arith) refl b.ready h code
+    (λ f e. let q = write_place_fine p place kind (Number z) s.frame.active s.frame.registers s.store f e in
+    record { lands = (b.means (Pointer f.at.object f.at.offset) q.place_is).0; taken = q.taken; value = stored_means p kind (Number z) q.taken (c.x 0) q.taken_is (r.regs.zero_reg ∙ sym nought); write = q.write })
 
 page : (hi : ℕ) → sum_of (hi * 4096 % 2 ^ 32) 0 ≡ hi * 4096 % 2 ^ 32
 page hi = omega arith

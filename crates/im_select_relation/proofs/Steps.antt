@@ -23,22 +23,25 @@ use Rattle.im_rv_reach.proofs.Orderly.{joined}
 use Rattle.im_select_operators.specs.Tables.{cell_word}
 use Rattle.im_store.specs.Checks.{Fine}
 use Rattle.im_store.specs.declared.operators.BinaryOp.{BinaryOp}
-use Rattle.im_store.specs.Objects.{Name, Named, Slot, Link, Object, static, Value, Number, Unset, Shape}
+use Rattle.im_store.specs.Objects.{Name, Named, Slot, Link, Object, static, Value, Number, Null, Unset, Shape, Store}
 use Rattle.im_store.specs.Outcomes.{Outcome, Undef, More, End, IsDefined}
 use Rattle.im_store.specs.Statics.{static_shapes, static_values, with_statics}
+use Rattle.im_block.specs.declared.code.Place.{Place}
+use Rattle.im_block.specs.declared.code.Place.TheVariants.{Static, Local, Through}
 use Rattle.im_block.specs.declared.code.Line.{Line}
-use Rattle.im_block.specs.declared.code.Line.TheVariants.{Put, Compute, Compare}
+use Rattle.im_block.specs.declared.code.Line.TheVariants.{Put, PutNull, Compute, Compare, Write}
 use Rattle.im_block.specs.declared.code.Block.{Block}
 use Rattle.im_block.specs.declared.unit.Function.{Function}
 use Rattle.im_block.specs.declared.code.Exit.{Exit}
 use Rattle.im_block.specs.declared.code.Exit.TheVariants.{Jump, Turn, Branch, Return}
 use Rattle.im_block.specs.declared.unit.Unit.{Unit as Code}
-use Rattle.im_block.specs.Meaning.{Setting, statics_of, condition, compared, as_number, as_truth, computed, computes, found, with_register, with_rest, does, at_block, State, Next, Goes, Stops, Event, Serves, goes_to, leaves, step_at, step}
+use Rattle.im_block.specs.Meaning.{Setting, Active, site_of, write_place, writes, statics_of, condition, compared, as_number, as_truth, computed, computes, found, with_register, with_rest, does, at_block, State, Next, Goes, Stops, Event, Serves, goes_to, leaves, step_at, step}
 use Rattle.im_block.specs.Runs.{Over, goes_on, exec, before, start}
 use Rattle.im_block.specs.Shape.{narrowing, spot_weight, next_weight, after, spent, exit_words}
 use Rattle.im_select_relation.specs.Linking.{Linking, pointer_at, frame_of, address, Means}
+use Rattle.im_alloc_relation.specs.Live.{uses, place_uses}
 use Rattle.im_live.specs.Reads.{lives_before, lives_in, reads_first}
-use Rattle.im_select_relation.specs.Selected.{nonzero, comparing, Tested, ExitAt, IsDead, Joined, Decides, IsSpent, Folded, ComputesBy, Stands, Paired}
+use Rattle.im_select_relation.specs.Selected.{IsHome, nonzero, comparing, Tested, ExitAt, IsDead, ZeroNumber, ZeroPointer, or_zero, Joined, Decides, DecidesByZero, IsUnread, IsSpent, Folded, ComputesBy, StoresZero, Stands, Paired}
 use Rattle.im_select_relation.specs.Law.{Touches, Nothing, Reading, Writing, Testing, Saving, Restoring, Serving, Cutting, ShowsStatics, steps, Shows}
 use Rattle.im_select_relation.proofs.Registers.{RegsMean, means_at, two_ways, register_same, register_other}
 use Rattle.im_select_relation.proofs.Mapped.{Mapped, object_is, base_static}
@@ -49,9 +52,9 @@ use Rattle.im_select_relation.proofs.Relation.{Rel, SlotsShaped, Finished, After
 use Rattle.im_select_relation.proofs.Ends.{jumps, continues, Passed, Decided, nonzero_decided, comparing_decided, tested}
 use Rattle.im_select_relation.proofs.Operators.{truth_word, condition_word}
 use Rattle.im_select_relation.proofs.Calls.{first_after, enter_after, back_after, clears, gives}
-use Rattle.im_select_relation.proofs.Lines.{compared_word, folded_after, line_after}
+use Rattle.im_select_relation.proofs.Lines.{compared_word, folded_after, stored_after, line_after}
 use Rattle.im_select_relation.proofs.Alike.{shaded, AlikeAt, Going, checked_both, same_function, alike_in, used_lives, operand, left_is, right_is, other_is, behind_lives, line_both, exit_both}
-use Rattle.im_select_relation.proofs.Stood.{truth_value, decided, Waiting, bearing, Stood, Shaded, Waits, Bears, Brought, Brings, both_brings, same_brings, checked_brings}
+use Rattle.im_select_relation.proofs.Stood.{truth_value, decided, Waiting, bearing, Zeroing, Stood, Shaded, Waits, Bears, Zeroes, Brought, Brings, both_brings, same_brings, checked_brings}
 use Rattle.im_select_relation.proofs.Fuel.{Paid, step_paid}
 
 same_regs : (p : Linking) (registers : ℕ → Value) (sp : ℕ) (x y : ℕ → ℕ) → RegsMean p registers sp x → ((i : ℕ) → y i ≡ x i) → RegsMean p registers sp y
@@ -114,6 +117,21 @@ one_dead : (blocks : List Block) (t : Bool) (a b to : ℕ) → IsDead blocks a t
 one_dead blocks true a b to d e = d
 one_dead blocks false a b to d e = e
 
+-- a zero: no instruction yet
+zeroed_brings : (p : Linking) (u : Code) (g : Setting) (s : State) (c : Cpu) (m : Mem) (words : ℕ) (w : Zeroing p u g s c m) → Brought p u g s.fuel words c m (bearing s w.r w.value (Compare w.to w.op w.kind w.left w.right ∷ [])) []
+zeroed_brings p u g s c m words w = record {
+  n = zero;
+  worth = omega arith;
+  few = omega arith;
+  d = c;
+  k = m;
+  ts = [];
+  touches = Nothing;
+  orderly = refl;
+  reach = nothing c m;
+  stood = Zeroes s c m w;
+}
+
 -- the comparison: no instruction yet
 joined_brings : (p : Linking) (u : Code) (g : Setting) (s : State) (c : Cpu) (m : Mem) (registers : ℕ → Value) (r : Rel p u g (shaded s registers) c m) (line : Line) (rest : List Line) (exit : Exit) (words : ℕ) → s.frame.spot.exit ≡ exit → AlikeAt r.f.blocks.items (line ∷ rest) exit s.frame.registers registers → Joined p r.f.blocks.items s.frame.function c.pc line rest exit → Brings p u g s.fuel words c m (does u g line rest s)
 joined_brings p u g s c m registers r line rest exit words is alike (Decides to op kind left right a b hl hr k da db way) =
@@ -138,6 +156,7 @@ joined_brings p u g s c m registers r line rest exit words is alike (Decides to 
           (Waits s c m (record {
             registers = registers;
             rel = r;
+            old = s.frame.registers;
             to = to;
             a = a;
             b = b;
@@ -152,20 +171,141 @@ joined_brings p u g s c m registers r line rest exit words is alike (Decides to 
             ];
           }));
     })
+joined_brings p u g s c m registers r line rest exit words is alike (DecidesByZero line' q to op kind left right a b (ZeroNumber q' z e) hl hr k sa sb da db way) =
+    zeroed_brings p u g s c m words (record {
+      registers = registers;
+      rel = r;
+      line = Put q z;
+      r = q;
+      value = Number z;
+      to = to;
+      op = op;
+      kind = kind;
+      left = left;
+      right = right;
+      a = a;
+      b = b;
+      exit = is;
+      zero = sym e;
+      others = λ i ne. other_is i q ne;
+      left_home = hl;
+      right_home = hr;
+      ordered = k;
+      spent = λ t. one_dead r.f.blocks.items t a b q sa sb;
+      dead = λ t. one_dead r.f.blocks.items t a b to da db;
+      alike = alike;
+      tested = way;
+    })
+joined_brings p u g s c m registers r line rest exit words is alike (DecidesByZero line' q to op kind left right a b (ZeroPointer q') hl hr k sa sb da db way) =
+    zeroed_brings p u g s c m words (record {
+      registers = registers;
+      rel = r;
+      line = PutNull q;
+      r = q;
+      value = Null;
+      to = to;
+      op = op;
+      kind = kind;
+      left = left;
+      right = right;
+      a = a;
+      b = b;
+      exit = is;
+      zero = refl;
+      others = λ i ne. other_is i q ne;
+      left_home = hl;
+      right_home = hr;
+      ordered = k;
+      spent = λ t. one_dead r.f.blocks.items t a b q sa sb;
+      dead = λ t. one_dead r.f.blocks.items t a b to da db;
+      alike = alike;
+      tested = way;
+    })
+
+-- the comparison behind a zero: no instruction yet either
+module _ (p : Linking) (u : Code) (g : Setting) (s : State) (c : Cpu) (m : Mem) (w : Zeroing p u g s c m) where
+  abbrev zeroed : ℕ → Value
+  zeroed = with_register s.frame.registers w.r w.value
+
+  abbrev compares : Line
+  compares = Compare w.to w.op w.kind w.left w.right
+
+  -- a register that isn't the zero's has the same value as before that
+  unzeroed : (q n : ℕ) → q ≢ w.r → lives_before (reads_first w.rel.f.blocks.items n) (compares ∷ []) (Branch w.to w.a w.b) q ≡ true → w.registers q ≡ zeroed q
+  unzeroed q n ne h = w.alike q n (behind_lives (reads_first w.rel.f.blocks.items n) w.line (compares ∷ []) (Branch w.to w.a w.b) q (w.others q ne) h) ∙ sym (register_other s.frame.registers w.r w.value q ne)
+
+  operand_means : (q : ℕ) → IsHome q → uses compares q ≡ true → Means p (zeroed q) (c.x (or_zero w.r q))
+  operand_means q home used = by (q == w.r) refl
+    where
+      by : (t : Bool) → (q == w.r) ≡ t → Means p (zeroed q) (c.x (cond t 0 q))
+      by true e =
+          let same : q ≡ w.r = grind (arith, nat_tests) in
+          means_at p w.value _ 0 _ (ap zeroed same ∙ register_same s.frame.registers w.r w.value) w.rel.regs.zero_reg w.zero
+      by false e =
+          let ne : q ≢ w.r = grind (arith, nat_tests) in
+          means_at p (w.registers q) _ (c.x q) _ (sym (unzeroed q 0 ne (used_lives (reads_first w.rel.f.blocks.items 0) compares [] (Branch w.to w.a w.b) q used))) refl (w.rel.regs.homes q home.0)
+
+  zeroed_alike : (t : Bool) (q n : ℕ) → reads_first w.rel.f.blocks.items (suc n) (cond t w.a w.b) q ≡ true → w.registers q ≡ with_register zeroed w.to (truth_value t) q
+  zeroed_alike t q n h = elim (two_ways q w.to) [
+    | inl same ↦ absurd (dead_not w.to (w.dead t) same)
+    | inr ne ↦ elim (two_ways q w.r) [
+      | inl same ↦ absurd (dead_not w.r (w.spent t) same)
+      | inr apart ↦
+          unzeroed q (suc n) apart (behind_lives (reads_first w.rel.f.blocks.items (suc n)) compares [] (Branch w.to w.a w.b) q (other_is q w.to ne) (either_lives (q == w.to) _ _ t (one_way (reads_first w.rel.f.blocks.items (suc n)) t w.a w.b q h)))
+          ∙ sym (register_other zeroed w.to (truth_value t) q ne)
+    ]
+  ]
+    where
+      dead_not : (i : ℕ) → IsDead w.rel.f.blocks.items (cond t w.a w.b) i → q ≡ i → ⊥
+      dead_not i dead same = let none = dead (suc n) in let lives : reads_first w.rel.f.blocks.items (suc n) (cond t w.a w.b) i ≡ true = ap (λ z. reads_first w.rel.f.blocks.items (suc n) (cond t w.a w.b) z) (sym same) ∙ h in let bad : true ≡ false = sym lives ∙ none in cc
+
+  compare_brings : (words : ℕ) → Brings p u g s.fuel words c m (does u g compares [] (bearing s w.r w.value (compares ∷ [])))
+  compare_brings words =
+      checked_brings p u g s.fuel words c m (as_truth (compared s.store w.op w.kind (zeroed w.left) (zeroed w.right))) _ (λ v e.
+      let t = then_fine (compared s.store w.op w.kind (zeroed w.left) (zeroed w.right)) _ v e in
+      let left : ℕ = or_zero w.r w.left in
+      let right : ℕ = or_zero w.r w.right in
+      let k = compared_word p s.store _ w.op w.kind (zeroed w.left) (zeroed w.right) (c.x left) (c.x right) t.a w.ordered w.rel.mapped t.first (operand_means w.left w.left_home (left_is w.left w.right)) (operand_means w.right w.right_home (right_is w.left w.right)) in
+      record {
+        n = zero;
+        worth = omega arith;
+        few = omega arith;
+        d = c;
+        k = m;
+        ts = [];
+        touches = Nothing;
+        orderly = refl;
+        reach = nothing c m;
+        stood = subst (λ z. Stood p u g (record s { frame = record (with_rest s.frame []) { registers = with_register zeroed w.to z } }) c m) (fine_is (truth_value t.a) v t.second)
+            (Waits s c m (record {
+              registers = w.registers;
+              rel = w.rel;
+              old = zeroed;
+              to = w.to;
+              a = w.a;
+              b = w.b;
+              holds = t.a;
+              test = comparing w.kind left right w.op;
+              exit = w.exit;
+              decides = subst (λ z. Decided (comparing w.kind left right w.op) c.x z) (sym k.is) (comparing_decided c.x w.kind left right w.op k.left k.right);
+              tested = w.tested;
+              alike = zeroed_alike t.a;
+            }));
+      })
 
 -- the branch
-waited_brings : (p : Linking) (u : Code) (g : Setting) → Premises p u g → (s : State) (c : Cpu) (m : Mem) (w : Waiting p u g s c m) → Brings p u g s.fuel 3 c m (leaves u g (Branch w.to w.a w.b) (decided s w.to w.holds))
+waited_brings : (p : Linking) (u : Code) (g : Setting) → Premises p u g → (s : State) (c : Cpu) (m : Mem) (w : Waiting p u g s c m) → Brings p u g s.fuel 3 c m (leaves u g (Branch w.to w.a w.b) (decided s w.old w.to w.holds))
 waited_brings p u g l s c m w =
     let r = w.rel in
     let b : ℕ = cond w.holds w.a w.b in
     let q = passed_to w.holds (tested p m c.pc c.x w.test _ _ w.holds r.fixed w.decides w.tested) in
-    let known : condition s.store (with_register s.frame.registers w.to (truth_value w.holds) w.to) ≡ Fine w.holds = ap (condition s.store) (register_same s.frame.registers w.to (truth_value w.holds)) ∙ ap Fine (truth_holds w.holds) in
-    checked_brings p u g s.fuel 3 c m (condition s.store (with_register s.frame.registers w.to (truth_value w.holds) w.to)) _ (λ t e.
-    subst (λ z. Brings p u g s.fuel 3 c m (goes_to u g (cond z w.a w.b) s.fuel (decided s w.to w.holds))) (fine_is w.holds t (sym known ∙ e))
+    let known : condition s.store (with_register w.old w.to (truth_value w.holds) w.to) ≡ Fine w.holds = ap (condition s.store) (register_same w.old w.to (truth_value w.holds)) ∙ ap Fine (truth_holds w.holds) in
+    checked_brings p u g s.fuel 3 c m (condition s.store (with_register w.old w.to (truth_value w.holds) w.to)) _ (λ t e.
+    subst (λ z. Brings p u g s.fuel 3 c m (goes_to u g (cond z w.a w.b) s.fuel (decided s w.old w.to w.holds))) (fine_is w.holds t (sym known ∙ e))
     (checked_brings {A = Function} p u g s.fuel 3 c m (found (slice_get u.functions.items s.frame.function)) _ (λ f is0.
     checked_brings {A = Block} p u g s.fuel 3 c m (found (slice_get f.blocks.items b)) _ (λ block found0.
     let same : f ≡ r.f = same_function s.frame.function u f r.f (found_fine _ f is0) r.is in
-    let next : State = record (decided s w.to w.holds) { frame = record (decided s w.to w.holds).frame { spot = at_block b block }; fuel = s.fuel } in
+    let next : State = record (decided s w.old w.to w.holds) { frame = record (decided s w.old w.to w.holds).frame { spot = at_block b block }; fuel = s.fuel } in
     let there : slice_get r.f.blocks.items b ≡ Some block = ap (λ (z : Function). slice_get z.blocks.items b) (sym same) ∙ found_fine _ block found0 in
     record {
       n = q.n;
@@ -216,6 +356,29 @@ borne_brings p u g s c m registers r line user rest words next alike (ComputesBy
     code = code;
   });
 }
+borne_brings p u g s c m registers r line user rest words next alike (StoresZero q z place kind access rest' exit' base imm mid nought apart unread b h) code = record {
+  n = 0;
+  worth = omega arith;
+  few = omega arith;
+  d = c;
+  k = m;
+  ts = [];
+  touches = Nothing;
+  orderly = refl;
+  reach = nothing c m;
+  stood = Bears s c m (record {
+    registers = registers;
+    rel = r;
+    r = q;
+    z = z;
+    user = Write place kind q access;
+    rest = rest;
+    next = mid + 4;
+    alike = alike;
+    folded = StoresZero q z place kind access rest s.frame.spot.exit base imm mid nought apart unread b h;
+    code = code;
+  });
+}
 
 paired_brings : (p : Linking) (u : Code) (g : Setting) (s : State) (c : Cpu) (m : Mem) (registers : ℕ → Value) (r : Rel p u g (shaded s registers) c m) (line : Line) (rest : List Line) (words : ℕ) → AlikeAt r.f.blocks.items (line ∷ rest) s.frame.spot.exit s.frame.registers registers → Paired p r.f.blocks.items s.frame.function (frame_of g s.frame.function) c.pc line rest s.frame.spot.exit → Brings p u g s.fuel words c m (does u g line rest s)
 paired_brings p u g s c m registers r line [] words alike h = absurd h
@@ -252,12 +415,34 @@ module _ (blocks : List Block) (exit : Exit) (old registers : ℕ → Value) (r 
     | inr other ↦ register_other registers to v q other ∙ still q n other h ∙ sym (register_other borne to v q other)
   ]
 
+-- registers that live behind a store of a zero: the zero's is none of them
+module _ (blocks : List Block) (exit : Exit) (old registers : ℕ → Value) (r : ℕ) (z : ℤ) (place : Place) (kind : Kind) (access : ℕ) (rest : List Line) (apart : place_uses place r ≡ false) (unread : IsUnread blocks rest exit r) (alike : AlikeAt blocks (Put r z ∷ Write place kind r access ∷ rest) exit old registers) where
+  abbrev storing_ : Line
+  storing_ = Write place kind r access
+
+  stored_alike : AlikeAt blocks rest exit (with_register old r (Number z)) registers
+  stored_alike q n h = elim (two_ways q r) [
+    | inl same ↦ absurd (let lives : lives_before (reads_first blocks n) rest exit r ≡ true = ap (λ x. lives_before (reads_first blocks n) rest exit x) (sym same) ∙ h in let none = unread n in let bad : true ≡ false = sym lives ∙ none in cc)
+    | inr other ↦ alike q n (behind_lives (reads_first blocks n) (Put r z) (storing_ ∷ rest) exit q (other_is q r other) (behind_lives (reads_first blocks n) storing_ rest exit q refl h)) ∙ sym (register_other old r (Number z) q other)
+  ]
+
+  place_still : (q : ℕ) → place_uses place q ≡ true → registers q ≡ with_register old r (Number z) q
+  place_still q e =
+      let other : q ≢ r = (λ same. let bad : true ≡ false = sym e ∙ ap (place_uses place) same ∙ apart in cc) in
+      let used : uses storing_ q ≡ true = ap (λ t. t || q == r) e in
+      alike q 0 (behind_lives (reads_first blocks 0) (Put r z) (storing_ ∷ rest) exit q (other_is q r other) (used_lives (reads_first blocks 0) storing_ rest exit q used)) ∙ sym (register_other old r (Number z) q other)
+
+write_same : (place : Place) (kind : Kind) (v : Value) (by : Active) (a b : ℕ → Value) (store : Store) → ((q : ℕ) → place_uses place q ≡ true → b q ≡ a q) → write_place place kind v by b store ≡ write_place place kind v by a store
+write_same (Static object offset) kind v by a b store h = refl
+write_same (Local object offset) kind v by a b store h = refl
+write_same (Through pointer offset) kind v by a b store h = ap (λ w. write_place (Through pointer offset) kind v by (λ i. w) store) (h pointer (let t : (pointer == pointer) ≡ true = grind (arith, nat_tests) in t))
+
 -- the line that uses it
-user_brings : (p : Linking) (u : Code) (g : Setting) (s : State) (c : Cpu) (m : Mem) (registers : ℕ → Value) (r : Rel p u g (shaded s registers) c m) (q : ℕ) (z : ℤ) (user : Line) (rest : List Line) (next : ℕ) → AlikeAt r.f.blocks.items (Put q z ∷ user ∷ rest) s.frame.spot.exit s.frame.registers registers → Folded p r.f.blocks.items c.pc (Put q z) user rest s.frame.spot.exit next → Stands p r.f.blocks.items s.frame.function (frame_of g s.frame.function) next rest s.frame.spot.exit → Brings p u g s.fuel (next_weight (steps p) (user ∷ rest) s.frame.spot.exit) c m (does u g user rest (bearing s q z (user ∷ rest)))
-user_brings p u g s c m registers r q z user rest next alike (ComputesBy q' z' to op kind left rest' exit' by imm home a ne k is spent h) code =
+user_brings : (p : Linking) (u : Code) (g : Setting) → Premises p u g → (s : State) (c : Cpu) (m : Mem) (registers : ℕ → Value) (r : Rel p u g (shaded s registers) c m) (q : ℕ) (z : ℤ) (user : Line) (rest : List Line) (next : ℕ) → AlikeAt r.f.blocks.items (Put q z ∷ user ∷ rest) s.frame.spot.exit s.frame.registers registers → Folded p r.f.blocks.items c.pc (Put q z) user rest s.frame.spot.exit next → Stands p r.f.blocks.items s.frame.function (frame_of g s.frame.function) next rest s.frame.spot.exit → Brings p u g s.fuel (next_weight (steps p) (user ∷ rest) s.frame.spot.exit) c m (does u g user rest (bearing s q (Number z) (user ∷ rest)))
+user_brings p u g l s c m registers r q z user rest next alike (ComputesBy q' z' to op kind left rest' exit' by imm home a ne k is spent h) code =
     let blocks : List Block = r.f.blocks.items in
     let line : Line = Compute to op kind left q in
-    let was : State = bearing s q z (line ∷ rest) in
+    let was : State = bearing s q (Number z) (line ∷ rest) in
     let old : ℕ → Value = was.frame.registers in
     let el = left_still blocks s.frame.spot.exit s.frame.registers registers q z to op kind left rest ne spent alike in
     let er = sym (register_same s.frame.registers q (Number z)) in
@@ -267,6 +452,19 @@ user_brings p u g s c m registers r q z user rest next alike (ComputesBy q' z' t
     let now : State = record was { frame = record (with_rest was.frame rest) { registers = with_register old to v } } in
     Going now (with_register registers to v) [] (alike_in u now (with_register registers to v) r.f r.is (used_alike blocks s.frame.spot.exit s.frame.registers registers q z to op kind left rest ne spent alike v))))
     (folded_after p u g (shaded s registers) c m r z to op kind left rest by imm home a k is h code)
+user_brings p u g l s c m registers r q z user rest next alike (StoresZero q' z' place kind access rest' exit' base imm mid nought apart unread b h) code =
+    let blocks : List Block = r.f.blocks.items in
+    let line : Line = Write place kind q access in
+    let was : State = bearing s q (Number z) (line ∷ rest) in
+    let old : ℕ → Value = was.frame.registers in
+    let by : Active = s.frame.active in
+    let same : write_place place kind (Number z) by registers s.store ≡ write_place place kind (old q) by old s.store =
+    write_same place kind (Number z) by old registers s.store (place_still blocks s.frame.spot.exit s.frame.registers registers q z place kind access rest apart unread alike) ∙ ap (λ v. write_place place kind v by old s.store) (sym (register_same s.frame.registers q (Number z))) in
+    both_brings p u g s.fuel 3 c m (writes (site_of access kind) (write_place place kind (old q) by old s.store) rest was) (writes (site_of access kind) (write_place place kind (Number z) by registers s.store) rest (shaded s registers))
+    (checked_both u _ _ _ _ same (λ left e.
+    let now : State = record was { frame = with_rest was.frame rest; store = left.store } in
+    Going now registers _ (alike_in u now registers r.f r.is (stored_alike blocks s.frame.spot.exit s.frame.registers registers q z place kind access rest apart unread alike))))
+    (stored_after p u g l (shaded s registers) c m r z place kind access rest base imm mid nought b h code)
 
 -- ---- a step
 
@@ -278,8 +476,9 @@ shaded_brings p u g l s c m registers r (line ∷ rest) alike (inr (inr code)) =
 
 pub stood_brings : (p : Linking) (u : Code) (g : Setting) → Premises p u g → (s : State) (c : Cpu) (m : Mem) → Stood p u g s c m → Brings p u g s.fuel (spot_weight (steps p) s.frame.spot) c m (step u g s)
 stood_brings p u g l s c m (Shaded s' c' m' registers alike r) = shaded_brings p u g l s' c m registers r s'.frame.spot.rest (alike r.f r.is) r.code
-stood_brings p u g l s c m (Waits s' c' m' w) = subst (λ z. Brings p u g s'.fuel (exit_words z) c m (leaves u g z (decided s' w.to w.holds))) (sym w.exit) (waited_brings p u g l s' c m w)
-stood_brings p u g l s c m (Bears s' c' m' w) = user_brings p u g s' c m w.registers w.rel w.r w.z w.user w.rest w.next w.alike w.folded w.code
+stood_brings p u g l s c m (Waits s' c' m' w) = subst (λ z. Brings p u g s'.fuel (exit_words z) c m (leaves u g z (decided s' w.old w.to w.holds))) (sym w.exit) (waited_brings p u g l s' c m w)
+stood_brings p u g l s c m (Bears s' c' m' w) = user_brings p u g l s' c m w.registers w.rel w.r w.z w.user w.rest w.next w.alike w.folded w.code
+stood_brings p u g l s c m (Zeroes s' c' m' w) = compare_brings p u g s' c' m' w 2
 
 pub touches_append : (p : Linking) (a b : List Event) (ts us : List Touch) → Touches p a ts → Touches p b us → Touches p (a ++ b) (ts ++ us)
 touches_append p a b ts us Nothing h = h

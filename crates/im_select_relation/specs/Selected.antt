@@ -1,5 +1,5 @@
 -- What stands in memory for lines, exits and entries, as instructions.
-use Rattle.std.specs.Prelude.{◌≡◌, ◌≢◌, ◌<◌, ◌⊎◌, ℕ, ◌+◌, ◌-◌, ◌^◌, ℤ, Bool, false, if◌then◌else◌, List, [], ◌∷◌, Option, Some, None}
+use Rattle.std.specs.Prelude.{◌≡◌, ◌≢◌, ◌<◌, ◌⊎◌, ℕ, ◌+◌, ◌-◌, ◌^◌, ◌==◌, ℤ, Bool, false, if◌then◌else◌, List, [], ◌∷◌, Option, Some, None}
 use Rattle.im_num.specs.declared.kind.Kind.{Kind}
 use Rattle.im_num.specs.declared.kind.Kind.TheVariants.{U8, Ptr}
 use Rattle.im_num.specs.declared.values.Cause.{Cause}
@@ -25,6 +25,7 @@ use Rattle.im_block.specs.declared.code.Line.TheVariants.{Put, PutNull, Copy, Co
 use Rattle.im_block.specs.declared.code.Exit.{Exit}
 use Rattle.im_block.specs.declared.code.Exit.TheVariants.{Jump, Turn, Branch, Return}
 use Rattle.im_block.specs.declared.code.Block.{Block}
+use Rattle.im_alloc_relation.specs.Live.{place_uses}
 use Rattle.im_live.specs.Reads.{lives_before, reads_first}
 use Rattle.im_select_relation.specs.Linking.{Linking}
 
@@ -185,9 +186,20 @@ ExitAt p i frame pc (Return from) = ReturnAt p frame pc from
 abbrev pub IsDead : List Block → ℕ → ℕ → Type 0
 IsDead blocks b r = (n : ℕ) → reads_first blocks n b r ≡ false
 
--- from pc on, a comparison and the branch by its register as one, where nothing else reads that register
+-- a line that puts a value whose word is 0 into register r
+pub data IsZero : Line → ℕ → Type 0 where
+  ZeroNumber : (r : ℕ) (z : ℤ) → word z ≡ 0 → IsZero (Put r z) r
+  ZeroPointer : (r : ℕ) → IsZero (PutNull r) r
+
+-- x0 for register r (RISC-V Unprivileged ISA, 2.1)
+abbrev pub or_zero : ℕ → ℕ → ℕ
+or_zero r q = if q == r then 0 else q
+
+-- from pc on, a comparison and the branch by its register as one, where nothing else reads that register; or so with a zero before
+-- them, for which x0 stands
 pub data Joined (p : Linking) (blocks : List Block) (i pc : ℕ) : Line → List Line → Exit → Type 0 where
   Decides : (to : ℕ) (op : Comparison) (kind : Kind) (left right a b : ℕ) → IsHome left → IsHome right → IsPromoted kind ⊎ (kind ≡ Ptr) → IsDead blocks a to → IsDead blocks b to → Tested p pc (comparing kind left right op) (p.place i a) (p.place i b) → Joined p blocks i pc (Compare to op kind left right) [] (Branch to a b)
+  DecidesByZero : (line : Line) (r to : ℕ) (op : Comparison) (kind : Kind) (left right a b : ℕ) → IsZero line r → IsHome left → IsHome right → IsPromoted kind ⊎ (kind ≡ Ptr) → IsDead blocks a r → IsDead blocks b r → IsDead blocks a to → IsDead blocks b to → Tested p pc (comparing kind (or_zero r left) (or_zero r right) op) (p.place i a) (p.place i b) → Joined p blocks i pc line (Compare to op kind left right ∷ []) (Branch to a b)
 
 -- an operator with a constant on its right, as an instruction with an immediate (RISC-V Unprivileged ISA, 2.4)
 pub data Immediate (z : ℤ) (kind : Kind) : BinaryOp → Op → ℕ → Type 0 where
@@ -199,13 +211,18 @@ pub data Immediate (z : ℤ) (kind : Kind) : BinaryOp → Op → ℕ → Type 0 
   ShiftsLeftBy : Immediate z kind ShiftLeft Slli (word z)
   ShiftsRightBy : Immediate z kind ShiftRight (by_sign kind Srai Srli) (word z)
 
--- what is left behind a line that sets `to` doesn't read register r
+-- what is left doesn't read register r
+abbrev pub IsUnread : List Block → List Line → Exit → ℕ → Type 0
+IsUnread blocks rest exit r = (n : ℕ) → lives_before (reads_first blocks n) rest exit r ≡ false
+
+-- nor does what is left behind a line that sets `to`
 abbrev pub IsSpent : List Block → List Line → Exit → ℕ → ℕ → Type 0
-IsSpent blocks rest exit to r = (r ≡ to) ⊎ ((n : ℕ) → lives_before (reads_first blocks n) rest exit r ≡ false)
+IsSpent blocks rest exit to r = (r ≡ to) ⊎ IsUnread blocks rest exit r
 
 -- from pc to next, a constant and the line that uses it as one, where nothing else reads the constant's register
 pub data Folded (p : Linking) (blocks : List Block) (pc : ℕ) : Line → Line → List Line → Exit → ℕ → Type 0 where
   ComputesBy : (r : ℕ) (z : ℤ) (to : ℕ) (op : BinaryOp) (kind : Kind) (left : ℕ) (rest : List Line) (exit : Exit) (by : Op) (imm : ℕ) → IsHome to → IsHome left → left ≢ r → IsPromoted kind → Immediate z kind op by imm → IsSpent blocks rest exit to r → Holds p.image pc (with_immediate by to left imm) → Folded p blocks pc (Put r z) (Compute to op kind left r) rest exit (pc + 4)
+  StoresZero : (r : ℕ) (z : ℤ) (place : Place) (kind : Kind) (access : ℕ) (rest : List Line) (exit : Exit) (base imm next : ℕ) → word z ≡ 0 → place_uses place r ≡ false → IsUnread blocks rest exit r → Based p pc place base imm next → Holds p.image next (storing (store_op kind) base 0 imm) → Folded p blocks pc (Put r z) (Write place kind r access) rest exit (next + 4)
 
 abbrev mutual
   -- the lines of function i, which has these blocks and this frame, from pc on: a line for itself, or with its exit, or with the next

@@ -1,5 +1,5 @@
 -- What selection gives: the same lines as instructions with labels, by their numbers in the list and with no address.
-use Rattle.std.specs.Prelude.{◌≡◌, ◌≢◌, ◌<◌, ◌≤◌, ◌⊎◌, ℕ, zero, suc, ◌+◌, ◌-◌, ◌%◌, ◌^◌, ℤ, Bool, if◌then◌else◌, List, [], ◌∷◌, Option, Some, None, slice_get}
+use Rattle.std.specs.Prelude.{◌≡◌, ◌≢◌, ◌<◌, ◌≤◌, ◌⊎◌, ℕ, zero, suc, ◌+◌, ◌-◌, ◌%◌, ◌^◌, ℤ, Bool, false, if◌then◌else◌, List, [], ◌∷◌, Option, Some, None, slice_get}
 use Rattle.im_num.specs.declared.kind.Kind.{Kind}
 use Rattle.im_num.specs.declared.kind.Kind.TheVariants.{U8, Ptr}
 use Rattle.im_num.specs.declared.values.Cause.{Cause}
@@ -28,11 +28,12 @@ use Rattle.im_block.specs.declared.code.Block.{Block}
 use Rattle.im_block.specs.declared.unit.Registers.TheVariants.{Machine}
 use Rattle.im_block.specs.declared.unit.Function.{Function}
 use Rattle.im_block.specs.Meaning.{Setting, shapes_of}
+use Rattle.im_alloc_relation.specs.Live.{place_uses}
 use Rattle.im_frame.specs.declared.layout.Layout.{Layout}
 use Rattle.im_frame.specs.Layout.{place_of as place_in, IsLayout}
 use Rattle.im_select_relation.specs.Linking.{Linking, LaidOut, frame_of}
 use Rattle.im_select_relation.specs.Linked.{FunctionAt}
-use Rattle.im_select_relation.specs.Selected.{IsHome, IsEntry, argument_register, ones, unused_bits, Test, nonzero, comparing, IsDead, Immediate, IsSpent}
+use Rattle.im_select_relation.specs.Selected.{IsHome, IsEntry, argument_register, ones, unused_bits, Test, nonzero, comparing, IsDead, IsZero, or_zero, Immediate, IsUnread, IsSpent}
 
 -- the lines of a function; the places of objects in frames and of statics; the labels of the function's blocks, of the
 -- functions' entries, of the lines for an exhausted stack, of a checkpoint by its last register, of each service
@@ -164,13 +165,16 @@ ExitIn w starts frame k (Turn b) = JumpsIn w k (w.block b)
 ExitIn w starts frame k (Branch on a b) = IsHome on × TestedIn w starts k (nonzero on) a b
 ExitIn w starts frame k (Return from) = ReturnIn w frame k from
 
--- from k on, a comparison and the branch by its register as one, where nothing else reads that register
+-- from k on, a comparison and the branch by its register as one, where nothing else reads that register; or so with a zero before
+-- them, for which x0 stands
 pub data JoinedIn (w : Lines) (blocks : List Block) (starts : ℕ → ℕ) (k : ℕ) : Line → List Line → Exit → Type 0 where
   Decides : (to : ℕ) (op : Comparison) (kind : Kind) (left right a b : ℕ) → IsHome left → IsHome right → IsPromoted kind ⊎ (kind ≡ Ptr) → IsDead blocks a to → IsDead blocks b to → TestedIn w starts k (comparing kind left right op) a b → JoinedIn w blocks starts k (Compare to op kind left right) [] (Branch to a b)
+  DecidesByZero : (line : Line) (r to : ℕ) (op : Comparison) (kind : Kind) (left right a b : ℕ) → IsZero line r → IsHome left → IsHome right → IsPromoted kind ⊎ (kind ≡ Ptr) → IsDead blocks a r → IsDead blocks b r → IsDead blocks a to → IsDead blocks b to → TestedIn w starts k (comparing kind (or_zero r left) (or_zero r right) op) a b → JoinedIn w blocks starts k line (Compare to op kind left right ∷ []) (Branch to a b)
 
 -- from k to next, a constant and the line that uses it as one, where nothing else reads the constant's register
 pub data FoldedIn (w : Lines) (blocks : List Block) (k : ℕ) : Line → Line → List Line → Exit → ℕ → Type 0 where
   ComputesBy : (r : ℕ) (z : ℤ) (to : ℕ) (op : BinaryOp) (kind : Kind) (left : ℕ) (rest : List Line) (exit : Exit) (by : Op) (imm : ℕ) → IsHome to → IsHome left → left ≢ r → IsPromoted kind → Immediate z kind op by imm → IsSpent blocks rest exit to r → Plain w k (with_immediate by to left imm) → FoldedIn w blocks k (Put r z) (Compute to op kind left r) rest exit (suc k)
+  StoresZero : (r : ℕ) (z : ℤ) (place : Place) (kind : Kind) (access : ℕ) (rest : List Line) (exit : Exit) (base imm next : ℕ) → word z ≡ 0 → place_uses place r ≡ false → IsUnread blocks rest exit r → BasedIn w k place base imm next → Accessing w next (storing (store_op kind) base 0 imm) access → FoldedIn w blocks k (Put r z) (Write place kind r access) rest exit (suc next)
 
 abbrev mutual
   -- the lines of a function that has these blocks and this frame, from k on

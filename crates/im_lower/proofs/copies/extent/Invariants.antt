@@ -1,0 +1,6 @@
+use Rattle.std.proofs.Common.{◌≡◌, drop, max}
+use Rattle.im_lower_relation.specs.Codes.{extent}
+use Rattle.im_lower.proofs.copies.extent.Given as goal
+
+abbrev pub invariant-loop-cell : goal.invariant-loop-cell
+invariant-loop-cell l = extent l.cells ≡ max l.end (extent (drop l.cell-index l.cells))
