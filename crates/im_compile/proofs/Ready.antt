@@ -26,8 +26,8 @@ use Rattle.im_block_laws.specs.Laws.{CutsKeepCodeLaw}
 use Rattle.im_alloc_placed.specs.Placeable.{IsPlaceable}
 use Rattle.im_alloc_placed.specs.Placed.{IsPlacedFunction, IsPlacedCode}
 use Rattle.im_alloc_placed.specs.Laws.{CutsKeepPlacesLaw}
-use Rattle.im_registers.specs.Registers.{InRegisters}
-use Rattle.im_registers.specs.Laws.{RegistersLaw}
+use Rattle.im_forward.specs.Registers.{InRegisters}
+use Rattle.im_forward.specs.RegistersLaws.{RegistersLaw}
 use Rattle.im_force.specs.Force.{Forces}
 use Rattle.im_force.specs.Laws.{ForceKeepsLaw}
 use Rattle.im_recut.specs.Recut.{IsGapLimit, RecutsTo}

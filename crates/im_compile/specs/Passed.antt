@@ -15,7 +15,7 @@ use Rattle.im_block.specs.Wellformed.{IsWellFormed}
 use Rattle.im_alloc_placed.specs.Placeable.{IsPlaceable}
 use Rattle.im_alloc_placed.specs.Placed.{IsPlacedCode}
 use Rattle.im_alloc_placed.specs.Apart.{AllUncut}
-use Rattle.im_registers.specs.Registers.{InRegisters}
+use Rattle.im_forward.specs.Registers.{InRegisters}
 use Rattle.im_force.specs.Force.{Forces}
 use Rattle.im_recut.specs.Recut.{RecutsTo}
 use Rattle.im_recut.specs.Laws.{AllWithinGap}

@@ -6,9 +6,9 @@ use im_block::added_cuts_law;
 use im_block_laws::cuts_keep_code_law;
 use im_compile_dependences::{force_names_law, place_names_law, recut_names_law, uncut_names_law};
 use im_force::force_keeps_law;
+use im_forward::registers_law;
 use im_lower_relation::lowered_form_law;
 use im_recut::recut_keeps_law;
-use im_registers::registers_law;
 
 /// What the passes make of a program is what those behind them ask.
 pub fn ready_law()

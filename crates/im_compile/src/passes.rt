@@ -12,11 +12,11 @@ use im_alloc_placed::cuts_keep_places_law;
 use im_block::{Unit, added_cuts_law};
 use im_block_laws::cuts_keep_code_law;
 use im_force::{force, force_keeps_law};
+use im_forward::{in_registers, registers_law};
 use im_lower::lower;
 use im_lower_relation::lowered_form_law;
 use im_num::NoMemory;
 use im_recut::recut;
-use im_registers::{in_registers, registers_law};
 use im_typed::{Func, Prog};
 use std::alloc::Global;
 

@@ -4,3 +4,4 @@ pub mod Load
 pub mod Shows
 pub mod Variables
 pub mod Laws
+pub mod LoadedLaws

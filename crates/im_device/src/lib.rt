@@ -3,4 +3,4 @@
 
 mod laws;
 
-pub use laws::{run_law, split_trace_law};
+pub use laws::{boot_law, loaded_law, run_law, split_trace_law, stays_law, whole_law};

@@ -13,3 +13,4 @@ mod Rest
 mod Straightening
 mod Deaths
 mod Chained
+mod Whole

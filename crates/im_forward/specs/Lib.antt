@@ -3,3 +3,5 @@ pub mod Forward
 pub mod Known
 pub mod Laws
 pub mod Straight
+pub mod Registers
+pub mod RegistersLaws

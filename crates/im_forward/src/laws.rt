@@ -1,4 +1,5 @@
 ghost use Rattle.im_forward.specs.Laws.{CostLaw, ForwardLaw, FormedLaw, OrderedLaw, PlaceableLaw, RestLaw, UncutLaw, WrittenLaw};
+ghost use Rattle.im_forward.specs.RegistersLaws.{RegistersLaw};
 
 /// Code whose copies are forwarded does what the code does.
 pub fn forward_law()
@@ -39,3 +40,23 @@ pub fn written_law()
 pub fn rest_law()
     ensures { RestLaw }
 {}
+
+/// Code whose locals are registers does what the code does wherever that is defined, and is all
+/// that the passes behind ask of what lowering gives.
+pub fn registers_law()
+    ensures { RegistersLaw }
+{
+    im_promote::promote_law();
+    im_promote::ordered_law();
+    im_promote::formed_law();
+    im_promote::placeable_law();
+    im_promote::cost_law();
+    im_promote::rest_law();
+    crate::forward_law();
+    crate::ordered_law();
+    crate::formed_law();
+    crate::placeable_law();
+    crate::uncut_law();
+    crate::cost_law();
+    crate::rest_law();
+}

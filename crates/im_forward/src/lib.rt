@@ -1,4 +1,4 @@
-//! From block code with copies of registers to block code that uses the registers themselves: what such code is, and what it does.
+//! From block code to block code whose scalar locals are registers: copies of registers are forwarded, and with promotion before it that is the pass of registers.
 #![tactic(auto)]
 
 mod copies;
@@ -6,11 +6,14 @@ mod dead;
 mod dying;
 mod forwarding;
 mod laws;
+mod registers;
 mod sources;
 mod straight;
 mod values;
 
 pub use forwarding::forward;
 pub use laws::{
-    cost_law, formed_law, forward_law, ordered_law, placeable_law, rest_law, uncut_law, written_law,
+    cost_law, formed_law, forward_law, ordered_law, placeable_law, registers_law, rest_law,
+    uncut_law, written_law,
 };
+pub use registers::in_registers;

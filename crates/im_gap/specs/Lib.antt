@@ -6,3 +6,5 @@ pub mod Walks
 pub mod Graph
 pub mod Search
 pub mod Bound
+pub mod Flows
+pub mod FlowLaws

@@ -41,12 +41,12 @@ use Rattle.im_select.proofs.Following.{LeadsOn, lead_path, lead_below, lead_entr
 use Rattle.im_select.proofs.Counting.{way_few}
 use Rattle.im_select.proofs.Services.{service_high}
 use Rattle.im_select.proofs.Taking.{IsTaken, Nothing, Comparing, Zeroing, zero_line, takes, all_left}
-use Rattle.im_saved_lines.specs.Laws.{laid}
-use Rattle.im_saved_lines.proofs.Scanning.{both, same_of, same_is, IsPlain}
-use Rattle.im_saved_lines.proofs.Plain.{adds_plain}
-use Rattle.im_saved_lines.proofs.Working.{IsWork, way_plain}
-use Rattle.im_saved_lines.proofs.Order.{some_there, AreBelow, order_below, kept_below}
-use Rattle.im_saved_lines.proofs.Selected.{next_is, test_way}
+use Rattle.im_saved_code.specs.LinesLaws.{laid}
+use Rattle.im_saved_code.proofs.Scanning.{both, same_of, same_is, IsPlain}
+use Rattle.im_saved_code.proofs.Plain.{adds_plain}
+use Rattle.im_saved_code.proofs.Working.{IsWork, way_plain}
+use Rattle.im_saved_code.proofs.Order.{some_there, AreBelow, order_below, kept_below}
+use Rattle.im_saved_code.proofs.Selected.{next_is, test_way}
 use Rattle.im_gap_ranked.proofs.Ranks.{greater, greater_within, After, cut_rank, rank_by, Goes, scan, IsRankedLine, AreRanked, AreWithin, scan_append, scan_labelled, ranked_append, ranked_labelled, within_append, within_labelled, plain_ranked, plain_rank, plain_within}
 use Rattle.im_gap_ranked.proofs.Routines.{entry_rank}
 

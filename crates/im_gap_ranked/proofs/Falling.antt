@@ -17,10 +17,10 @@ use Rattle.im_gap.specs.declared.flow.Turn.TheVariants.{Passes, Jumps, Branches,
 use Rattle.im_gap.specs.Flow.{turn_by, turn_of, imm_of, links_by, links, IsBehind, Leads, Flow}
 use Rattle.im_link.specs.Links.{StandsAt, Does, AreWordsOf}
 use Rattle.im_link.specs.Parts.{lines_of}
-use Rattle.im_saved_lines.specs.Scan.{way}
+use Rattle.im_saved_code.specs.Scan.{way}
 use Rattle.im_saved_code.proofs.Lists.{code_append, code_at}
 use Rattle.im_saved_code.proofs.Words.{Word, word_of, no_word, turn_way, links_is}
-use Rattle.im_saved_lines.proofs.Scanning.{same_of}
+use Rattle.im_saved_code.proofs.Scanning.{same_of}
 use Rattle.im_gap_ranked.proofs.Ranks.{greater, greater_left, greater_right, After, nothing, cut_rank, at_target, rank_by, rank_of, before, scan, Goes, IsRankedLine, AreRanked, IsWithin, AreWithin, ranked_append, within_append}
 use Rattle.im_gap_ranked.proofs.Runtime.{runtime_rank, Falls, TurnFalls, IsRuntimeLine}
 

@@ -8,8 +8,8 @@ use Rattle.im_rv.specs.Lines.{CodeLine}
 use Rattle.im_gap.specs.declared.flow.Turn.{Turn}
 use Rattle.im_gap.specs.declared.flow.Turn.TheVariants.{Passes, Jumps, Branches, Returns, Stops}
 use Rattle.im_select.specs.Emitted.{labelled}
-use Rattle.im_saved_lines.specs.Scan.{way}
-use Rattle.im_saved_lines.proofs.Scanning.{ArePlain}
+use Rattle.im_saved_code.specs.Scan.{way}
+use Rattle.im_saved_code.proofs.Scanning.{ArePlain}
 
 -- ---- the greater of two
 

@@ -11,8 +11,8 @@ use Rattle.im_gap.specs.declared.flow.Turn.TheVariants.{Passes, Jumps, Branches,
 use Rattle.im_serve.specs.declared.service.Service.{Service}
 use Rattle.im_rtlib.specs.Routines.{routine, exit, stack}
 use Rattle.im_select.proofs.Services.{each_service}
-use Rattle.im_saved_lines.specs.Scan.{way}
-use Rattle.im_saved_lines.proofs.Scanning.{both, either, not_true, same_of, same_is}
+use Rattle.im_saved_code.specs.Scan.{way}
+use Rattle.im_saved_code.proofs.Scanning.{both, either, not_true, same_of, same_is}
 use Rattle.im_gap_ranked.proofs.Ranks.{After, cut_rank, rank_of, scan, GoesTo, Goes, AreRanked, AreWithin}
 
 -- what calls lead to is no greater

@@ -16,7 +16,7 @@ use Rattle.im_gap.specs.Flow.{turn_by, links_by}
 use Rattle.im_link.specs.Parts.{lines_of}
 use Rattle.im_link.proofs.Joining.{get_kept, get_behind}
 use Rattle.im_link_laws.specs.Program.{HasCode}
-use Rattle.im_saved_lines.proofs.Scanning.{both, same_of}
+use Rattle.im_saved_code.proofs.Scanning.{both, same_of}
 use Rattle.im_saved_code.proofs.Lists.{code_at}
 use Rattle.im_saved_code.proofs.Parts.{code_is}
 use Rattle.im_gap_ranked.proofs.Ranks.{cut_rank}

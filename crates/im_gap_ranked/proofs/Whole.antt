@@ -39,7 +39,7 @@ use Rattle.im_link_laws.proofs.Runtimes.{saved_there, size_of}
 use Rattle.im_link_laws.proofs.Services.{routine_there, PartAt, ServicePart, StackPart, LaterPart, part_at}
 use Rattle.im_link_laws.proofs.Standing.{behind}
 use Rattle.im_saved_code.proofs.Parts.{code_is}
-use Rattle.im_saved_lines.specs.Scan.{way}
+use Rattle.im_saved_code.specs.Scan.{way}
 use Rattle.im_gap_ranked.specs.Laws.{HasShortGap}
 use Rattle.im_gap_ranked.proofs.Ranks.{After, nothing, AreRanked, AreWithin}
 use Rattle.im_gap_ranked.proofs.Routines.{entry_rank, routine_rank, service_ranked, stack_ranked, exit_ranked, service_within, stack_within, exit_within}

@@ -21,7 +21,7 @@ use Rattle.im_rtlib.specs.Routines.{getchar, putchar, stack, exit}
 use Rattle.im_store.specs.declared.operators.UnaryOp.TheVariants.{Negate, Complement}
 use Rattle.im_store.specs.declared.operators.Comparison.TheVariants.{Less, Greater, LessOrEqual, GreaterOrEqual, Equal, NotEqual}
 use Rattle.im_store.specs.Objects.{Name, Slot}
-use Rattle.im_select_operators.specs.Tables.{operation, less_op, load_op, store_op}
+use Rattle.im_select_relation.specs.OperatorTables.{operation, less_op, load_op, store_op}
 use Rattle.im_block.specs.declared.code.Place.{Place}
 use Rattle.im_block.specs.declared.code.Place.TheVariants.{Static, Local, Through}
 use Rattle.im_block.specs.declared.code.Line.{Line}
@@ -39,10 +39,10 @@ use Rattle.im_select.specs.declared.distance.Distance.TheVariants.{Near, Far}
 use Rattle.im_select.specs.Emitted.{high_of, low_of, constant_by, constant_code, displaced_by, displaced_code, adds_by, adds_code, place_number, place_code, moved_code, copied_code, step_op, shift_of, shifts_code, scaled_code, based_code, address_code, computed_code, immediate_line, passed_by, by_or, stored_from, way_code, line_code, lines_code, behind_each, onward_code, test_op, test_code, test_or, taken_test, own_lines, is_next, branch_code, exit_code, is_empty, result_code, leave_code, block_code, kept_order, Laying, leads_of, next_label, found_code, laid_block, laid_code, blocks_code, prologue_code, function_code, labelled, entry_label}
 use Rattle.im_select.specs.Selects.{laying_of}
 use Rattle.im_link_laws.specs.Program.{HasCode, part_of, given_at, start_code, IsProgram}
-use Rattle.im_saved_lines.specs.Scan.{way}
-use Rattle.im_saved_lines.proofs.Scanning.{both}
-use Rattle.im_saved_lines.proofs.Working.{immediate_way}
-use Rattle.im_saved_lines.proofs.Plain.{operation_way, less_way, load_way, store_way, step_way}
+use Rattle.im_saved_code.specs.Scan.{way}
+use Rattle.im_saved_code.proofs.Scanning.{both}
+use Rattle.im_saved_code.proofs.Working.{immediate_way}
+use Rattle.im_saved_code.proofs.Plain.{operation_way, less_way, load_way, store_way, step_way}
 
 abbrev pub IsMarked : CodeLine → Type 0
 IsMarked l = links_by l.line.op 3 l.line.rd ≡ is_cut l.cause

@@ -20,8 +20,8 @@ use Rattle.im_replay.proofs.Owing.{sound}
 use Rattle.im_replay.proofs.Device.{replay_law, output_law, progress_law}
 use Rattle.im_replay.proofs.Shows.{grows_on}
 use Rattle.im_replay.proofs.Images.{can_resume, owed_of, first_mem, first_place}
-use Rattle.im_gap_flow.specs.Flows.{IsPlaced}
-use Rattle.im_gap_flow.specs.Laws.{AlongLaw, GapLaw}
+use Rattle.im_gap.specs.Flows.{IsPlaced}
+use Rattle.im_gap.specs.FlowLaws.{AlongLaw, GapLaw}
 use Rattle.im_store.specs.Outcomes.{Outcome, Undef, More, End, IsDefined}
 use Rattle.im_typed.specs.Sound.{EndsRight}
 use Rattle.im_block.specs.declared.unit.Static.{Static as StaticOf}
@@ -46,8 +46,8 @@ use Rattle.im_keeps_until.specs.Until.{OwesUntil}
 use Rattle.im_keeps_until.specs.Laws.{Owes, OwesAlways, UntilLaw}
 use Rattle.im_keeps_until.proofs.Still.{still, over_still, flips_still, flips_more}
 use Rattle.im_keeps_passes.specs.Source.{Source, IsRightSource}
-use Rattle.im_keeps_written.specs.Written.{code_end, IsLoaded}
-use Rattle.im_keeps_written.specs.Laws.{WrittenLaw}
+use Rattle.im_keeps_run.specs.Written.{code_end, IsLoaded}
+use Rattle.im_keeps_run.specs.WrittenLaws.{WrittenLaw}
 use Rattle.im_keeps_passes.specs.Machine.{powered, stores_before, ShowsAfter}
 use Rattle.im_keeps_passes.specs.Passes.{needs_of, setting, IsSelectable, Passes}
 use Rattle.im_keeps_passes.specs.Laws.{meaning_of, KeepsUninterrupted, ReachesUninterrupted, Survives, PassesKeep}

@@ -18,7 +18,7 @@ use Rattle.im_block.specs.Meaning.{statics_of}
 use Rattle.im_block.specs.Shape.{sum_of, placed_cost}
 use Rattle.im_alloc_placed.specs.Apart.{AllApart}
 use Rattle.im_alloc_placed.specs.Placed.{frame_bytes}
-use Rattle.im_keeps_written.specs.Written.{code_end}
+use Rattle.im_keeps_run.specs.Written.{code_end}
 use Rattle.im_keeps_passes.specs.Machine.{powered}
 use Rattle.im_keeps_passes.specs.Passes.{needs_of, setting, Prepares, Passes}
 

@@ -19,7 +19,7 @@ use Rattle.im_block.specs.Shape.{Weights, total, spent, after}
 use Rattle.im_keeps.specs.Keeps.{Begins, Shows}
 use Rattle.im_keeps_run.specs.Laws.{run_of}
 use Rattle.im_keeps_until.specs.Until.{OwesUntil}
-use Rattle.im_keeps_written.specs.Written.{code_end}
+use Rattle.im_keeps_run.specs.Written.{code_end}
 
 -- one period of power: so many instructions after power came, with this word in all registers
 abbrev pub powered : ImageValue → List ℕ → ℕ → ℕ → Moment

@@ -20,7 +20,7 @@ use Rattle.im_force.specs.Force.{Forces}
 use Rattle.im_gap.specs.Gap.{IsGap}
 use Rattle.im_keeps.specs.Keeps.{IsInput}
 use Rattle.im_keeps_passes.specs.Source.{Source}
-use Rattle.im_keeps_written.specs.Written.{IsWritten}
+use Rattle.im_keeps_run.specs.Written.{IsWritten}
 use Rattle.im_keeps_passes.specs.Machine.{Executes}
 
 -- the bytes that the frame of each function may need

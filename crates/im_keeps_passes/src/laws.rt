@@ -4,10 +4,9 @@ use im_alloc_placed::cuts_keep_places_law;
 use im_block::{added_cuts_law, each_line_law, section_law};
 use im_block_laws::cuts_keep_code_law;
 use im_force::force_keeps_law;
-use im_gap_flow::{along_law, gap_law};
-use im_keeps_run::{end_kept_law, run_kept_law};
+use im_gap::{along_law, gap_law};
+use im_keeps_run::{end_kept_law, run_kept_law, written_law};
 use im_keeps_until::until_law;
-use im_keeps_written::written_law;
 
 /// From the passes' promises alone: the written image keeps its program's meaning.
 pub fn passes_keep_law()

@@ -1,1 +1,3 @@
 pub mod Kept
+mod Standing
+mod Loading

@@ -10,8 +10,8 @@ use Rattle.im_block.proofs.Unitwise.{zip_same, zip_map}
 use Rattle.im_alloc_relation.specs.Placing.{PlacedFunction}
 use Rattle.im_alloc_laws.specs.Numbered.{IsWellPlaced}
 use Rattle.im_alloc_laws.specs.Laws.{PlacedCodeLaw}
-use Rattle.im_registers.specs.Registers.{InRegisters}
-use Rattle.im_registers.specs.Laws.{RegistersLaw}
+use Rattle.im_forward.specs.Registers.{InRegisters}
+use Rattle.im_forward.specs.RegistersLaws.{RegistersLaw}
 use Rattle.im_recut.specs.Recut.{RecutsTo}
 use Rattle.im_recut.specs.Laws.{RecutKeepsLaw}
 use Rattle.im_keeps_passes.specs.Source.{Source}

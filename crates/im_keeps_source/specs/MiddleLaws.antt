@@ -4,7 +4,7 @@ use Rattle.im_image.specs.Contents.{ImageValue}
 use Rattle.im_block.specs.declared.access.Tags.{Tags}
 use Rattle.im_block.specs.declared.unit.Unit.{Unit as Code}
 use Rattle.im_alloc_laws.specs.Numbered.{IsWellPlaced}
-use Rattle.im_registers.specs.Registers.{InRegisters}
+use Rattle.im_forward.specs.Registers.{InRegisters}
 use Rattle.im_recut.specs.Recut.{RecutsTo}
 use Rattle.im_keeps_passes.specs.Source.{Source}
 use Rattle.im_keeps_passes.specs.Passes.{Lowers, Cuts, Places, Recuts, Passes}

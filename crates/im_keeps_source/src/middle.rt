@@ -1,9 +1,9 @@
 ghost use Rattle.im_keeps_source.specs.MiddleLaws.{MiddleLaw};
 
 use im_alloc_laws::placed_code_law;
+use im_forward::registers_law;
 use im_keeps_passes::code_bounds_law;
 use im_recut::recut_keeps_law;
-use im_registers::registers_law;
 
 /// Locals in registers, forced cuts, places and the greedy cuts of placed code keep their lines of
 /// the record of passes; between forced cuts and places nothing is cut.

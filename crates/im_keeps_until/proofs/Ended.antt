@@ -18,7 +18,7 @@ use Rattle.im_replay.specs.Output.{Extends}
 use Rattle.im_replay.proofs.Shows.{extends_self}
 use Rattle.im_gap.specs.declared.flow.Turn.TheVariants.{Returns}
 use Rattle.im_gap.specs.Flow.{turn_of}
-use Rattle.im_gap_flow.specs.Flows.{IsAt, GoesBehindCall}
+use Rattle.im_gap.specs.Flows.{IsAt, GoesBehindCall}
 use Rattle.im_keeps_until.specs.Until.{halt_line, IsUsedAt, OwesUntil}
 use Rattle.im_keeps_until.proofs.Still.{still}
 

@@ -7,7 +7,7 @@ use Rattle.im_replay.specs.Compiled.{RunsSafely}
 use Rattle.im_replay.specs.Output.{ShowsSafely}
 use Rattle.im_gap.specs.declared.flow.Turn.TheVariants.{Returns}
 use Rattle.im_gap.specs.Flow.{turn_of, links}
-use Rattle.im_gap_flow.specs.Flows.{IsAt, GoesBehindCall}
+use Rattle.im_gap.specs.Flows.{IsAt, GoesBehindCall}
 use Rattle.im_keeps_until.specs.Until.{OwesUntil}
 
 -- of more steps than so many

@@ -14,7 +14,7 @@ use Rattle.im_replay.specs.Needed.{uses}
 use Rattle.im_replay.specs.Output.{Extends}
 use Rattle.im_gap.specs.declared.flow.Turn.TheVariants.{Returns}
 use Rattle.im_gap.specs.Flow.{turn_of, links}
-use Rattle.im_gap_flow.specs.Flows.{IsAt, GoesBehindCall}
+use Rattle.im_gap.specs.Flows.{IsAt, GoesBehindCall}
 
 abbrev pub halt_line : Line
 halt_line = record { op = Ebreak; rd = 0; rs1 = 0; rs2 = 0; imm = 0 }

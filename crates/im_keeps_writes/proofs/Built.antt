@@ -21,8 +21,8 @@ use Rattle.im_select_relation.specs.Law.{SelectKeeps}
 use Rattle.im_select_executes.specs.Executing.{IsInImage}
 use Rattle.im_keeps.specs.Keeps.{IsInput, IsRightFor}
 use Rattle.im_keeps_run.specs.Laws.{run_of}
-use Rattle.im_keeps_written.specs.Written.{code_end}
-use Rattle.im_keeps_written.specs.Laws.{WrittenLaw}
+use Rattle.im_keeps_run.specs.Written.{code_end}
+use Rattle.im_keeps_run.specs.WrittenLaws.{WrittenLaw}
 use Rattle.im_keeps_passes.specs.Passes.{setting, Lowers}
 use Rattle.im_keeps_source.specs.MiddleLaws.{MiddleLaw}
 use Rattle.im_keeps_source.proofs.Needs.{needs_fit}

@@ -7,3 +7,6 @@ mod Idle
 mod Appending
 mod Moments
 mod Built
+mod Bounded
+mod Rows
+mod FunctionBounded

@@ -20,8 +20,8 @@ use Rattle.im_replay.proofs.Device.{replay_law}
 use Rattle.im_replay.proofs.Endless.{is_run}
 use Rattle.im_keeps.specs.Keeps.{IsInput}
 use Rattle.im_keeps_run.specs.Laws.{run_of}
-use Rattle.im_keeps_written.specs.Written.{IsWritten, code_end, IsLoaded, IsBegun}
-use Rattle.im_keeps_written.specs.Laws.{WrittenLaw}
+use Rattle.im_keeps_run.specs.Written.{IsWritten, code_end, IsLoaded, IsBegun}
+use Rattle.im_keeps_run.specs.WrittenLaws.{WrittenLaw}
 use Rattle.im_keeps_writes.specs.Writes.{is_word, is_in, is_stack, is_output, may_change, output_end, Writes}
 use Rattle.im_keeps_writes.proofs.Fine.{IsFine}
 use Rattle.im_keeps_writes.proofs.Idle.{sound_run, agrees_at, byte_stays, live_stays, torn_keeps}

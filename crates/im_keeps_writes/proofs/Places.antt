@@ -18,7 +18,7 @@ use Rattle.im_store.specs.Statics.{StaticObject}
 use Rattle.im_block.specs.declared.unit.Unit.{Unit as Code}
 use Rattle.im_block.specs.Meaning.{Setting, statics_of}
 use Rattle.im_select_relation.specs.Linking.{Linking}
-use Rattle.im_select_statics.specs.Named.{AreNamed}
+use Rattle.im_select_addresses.specs.Named.{AreNamed}
 use Rattle.im_keeps_writes.specs.Writes.{is_word, is_in, is_stack, is_output, may_change}
 use Rattle.im_keeps_writes.proofs.Held.{InStatic, IsHeld}
 use Rattle.im_keeps_writes.proofs.Stored.{IsInOrder}

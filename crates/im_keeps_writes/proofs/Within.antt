@@ -28,7 +28,7 @@ use Rattle.im_block.specs.Runs.{Runs}
 use Rattle.im_block.specs.Wellformed.{IsWellFormed}
 use Rattle.im_select_relation.specs.Linking.{Linking}
 use Rattle.im_select_relation.specs.Law.{Begun, Shows, Follows, SelectKeeps}
-use Rattle.im_select_statics.specs.Named.{AreNamed}
+use Rattle.im_select_addresses.specs.Named.{AreNamed}
 use Rattle.im_select_executes.proofs.Effects.{touches_same}
 use Rattle.im_select_executes.proofs.Accesses.{stores_at}
 use Rattle.im_select_executes.proofs.Going.{from_touched}
@@ -36,8 +36,8 @@ use Rattle.im_select_executes.proofs.Mirror.{Mirrors, mirrors, stands}
 use Rattle.im_keeps.specs.Keeps.{IsInput}
 use Rattle.im_keeps_run.specs.Laws.{run_of}
 use Rattle.im_keeps_until.proofs.Still.{still}
-use Rattle.im_keeps_written.specs.Written.{code_end, IsLoaded, IsBegun}
-use Rattle.im_keeps_written.specs.Laws.{WrittenLaw}
+use Rattle.im_keeps_run.specs.Written.{code_end, IsLoaded, IsBegun}
+use Rattle.im_keeps_run.specs.WrittenLaws.{WrittenLaw}
 use Rattle.im_select_executes.specs.Executing.{first_cpu, IsInImage}
 use Rattle.im_keeps_writes.specs.Writes.{may_change}
 use Rattle.im_keeps_writes.proofs.Fine.{IsFine, some_or_none}

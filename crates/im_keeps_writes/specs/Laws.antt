@@ -7,7 +7,7 @@ use Rattle.im_replay.specs.Compiled.{RunsSafely}
 use Rattle.im_replay.specs.Output.{ShowsSafely}
 use Rattle.im_keeps.specs.Keeps.{IsInput, IsRightFor}
 use Rattle.im_keeps_run.specs.Laws.{run_of}
-use Rattle.im_keeps_written.specs.Written.{code_end}
+use Rattle.im_keeps_run.specs.Written.{code_end}
 use Rattle.im_keeps_source.specs.Laws.{meaning_of}
 use Rattle.im_compile.specs.declared.options.Options.{Options}
 use Rattle.im_compile.specs.declared.built.Built.{Built}

@@ -1,2 +1,4 @@
 pub mod Writes
 pub mod Laws
+pub mod Bound
+pub mod FunctionBound

@@ -1,11 +1,13 @@
 ghost use Rattle.im_keeps_writes.specs.Laws.{BuiltWritesLaw};
+ghost use Rattle.im_keeps_writes.specs.Bound.{BuiltBoundLaw};
 
+use crate::function_bound_law;
 use im_block::added_cuts_law;
 use im_block_laws::cuts_keep_code_law;
 use im_compile::ready_law;
 use im_force::force_keeps_law;
+use im_keeps_run::written_law;
 use im_keeps_source::{lowers_law, middle_law};
-use im_keeps_written::written_law;
 use im_link_laws::linkable_law;
 use im_pack_laws::{in_image_law, named_law};
 use im_select_relation::select_keeps_law;
@@ -26,4 +28,13 @@ pub fn built_writes_law()
     cuts_keep_code_law();
     select_keeps_law();
     written_law();
+}
+
+/// In what is built of a program each function has at most 256 bytes for each of its nodes, and 256
+/// more.
+pub fn built_bound_law()
+    ensures { BuiltBoundLaw }
+{
+    ready_law();
+    function_bound_law();
 }

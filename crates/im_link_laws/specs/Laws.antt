@@ -16,7 +16,7 @@ use Rattle.im_link.specs.Code.{IsLinkable, IsLinked as IsLinkedCode}
 use Rattle.im_rtlib_laws.specs.Standing.{StandFrom}
 use Rattle.im_store.specs.Objects.{Name, Named, Link, Shape}
 use Rattle.im_store.specs.Statics.{static_shapes, static_values}
-use Rattle.im_select_operators.specs.Tables.{cell_word}
+use Rattle.im_select_relation.specs.OperatorTables.{cell_word}
 use Rattle.im_block.specs.declared.unit.Function.{Function}
 use Rattle.im_block.specs.declared.unit.Unit.{Unit as Code}
 use Rattle.im_block.specs.Meaning.{Setting, statics_of}

@@ -6,3 +6,7 @@ pub mod Given
 pub mod StatementSteps
 pub mod Sized
 pub mod Placing
+pub mod Ways
+pub mod Values
+pub mod Statements
+pub mod Whole

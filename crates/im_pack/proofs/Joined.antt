@@ -11,7 +11,7 @@ use Rattle.im_image.specs.declared.object.CellRun.{CellRun}
 use Rattle.im_image.specs.Contents.{AreRuns, is_run, run_end, end_of, continues, kind_code}
 use Rattle.im_image.specs.Faults.{kind_of}
 use Rattle.im_ctype.specs.declared.cell.Cell.{Cell}
-use Rattle.im_select_statics.specs.Named.{cells_along, cells_of_run}
+use Rattle.im_select_addresses.specs.Named.{cells_along, cells_of_run}
 use Rattle.im_pack.specs.Objects.{one_cell, goes_on, longer, added, runs_with, runs_of}
 use Rattle.im_pack.proofs.Cells.{AreFrom}
 

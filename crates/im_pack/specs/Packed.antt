@@ -18,7 +18,7 @@ use Rattle.im_block.specs.declared.unit.Unit.{Unit as Code}
 use Rattle.im_block.specs.Wellformed.{IsWellFormed}
 use Rattle.im_frame.specs.Layout.{rooms}
 use Rattle.im_select_addresses.specs.Statics.{objects_of}
-use Rattle.im_select_statics.specs.Named.{cells_of_run}
+use Rattle.im_select_addresses.specs.Named.{cells_of_run}
 
 -- the word of a first value, where the statics have these addresses
 abbrev pub word_of : List ℕ → Constant → ℕ

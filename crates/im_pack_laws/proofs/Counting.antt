@@ -39,7 +39,7 @@ use Rattle.im_select.proofs.Pairing.{lines_alone, lines_paired, lines_stored, fo
 use Rattle.im_select.proofs.Parts.{word_cases}
 use Rattle.im_select.proofs.Taking.{IsTaken, Nothing, Comparing, Zeroing, zero_line, takes}
 use Rattle.im_rv.specs.declared.instr.Op.{Op}
-use Rattle.im_select_operators.specs.Tables.{less_op}
+use Rattle.im_select_relation.specs.OperatorTables.{less_op}
 use Rattle.im_link.specs.Parts.{first_of, word_count}
 use Rattle.im_link.proofs.Joining.{first_whole}
 use Rattle.im_link_laws.specs.Program.{IsProgram, part_of, start_code, given_at}

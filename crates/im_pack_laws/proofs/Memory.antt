@@ -11,7 +11,7 @@ use Rattle.im_image.specs.declared.form.Form.TheVariants.{TwoLengths}
 use Rattle.im_image.specs.Contents.{ImageValue, IsImage}
 use Rattle.im_device.specs.Load.{memory_of, laid, pieces}
 use Rattle.im_device.specs.Shows.{output_length}
-use Rattle.im_device_laws.proofs.Loaded.{loaded_small}
+use Rattle.im_device.proofs.Loaded.{loaded_small}
 use Rattle.im_rv_reach.specs.Shown.{shown, left}
 use Rattle.im_rv_reach.specs.Routines.{Words}
 use Rattle.im_keeps.specs.Keeps.{IsInput}

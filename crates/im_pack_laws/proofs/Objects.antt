@@ -11,8 +11,8 @@ use Rattle.im_mem.specs.Memory.{Mem, little, view}
 use Rattle.im_rv.specs.Steps.{extended}
 use Rattle.im_image.specs.Contents.{ObjectValue}
 use Rattle.im_device.specs.Load.{memory_of}
-use Rattle.im_select_operators.specs.Tables.{cell_word, extension_of}
-use Rattle.im_select_operators.proofs.Words.{loaded_wrap}
+use Rattle.im_select_relation.specs.OperatorTables.{cell_word, extension_of}
+use Rattle.im_select_relation.proofs.Words.{loaded_wrap}
 use Rattle.im_ctype.specs.declared.cell.Cell.{Cell}
 use Rattle.im_store.specs.Objects.{Name, Named, Slot, Link, Pointer, Shape, shape_of, kind_at, static}
 use Rattle.im_store.specs.Statics.{static_shapes, static_values, value_at}
@@ -30,7 +30,7 @@ use Rattle.im_select_addresses.specs.Statics.{objects_of}
 use Rattle.im_select_addresses.proofs.Frames.{frames}
 use Rattle.im_select_addresses.proofs.Lying.{laid}
 use Rattle.im_select_relation.specs.Linking.{Linking, Means}
-use Rattle.im_select_statics.specs.Named.{AreNamed}
+use Rattle.im_select_addresses.specs.Named.{AreNamed}
 use Rattle.im_pack.specs.Packed.{word_of, IsObjectOf}
 use Rattle.im_pack.proofs.Views.{index_left}
 use Rattle.im_pack.proofs.Statics.{object_is}

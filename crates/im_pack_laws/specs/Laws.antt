@@ -12,13 +12,13 @@ use Rattle.im_frame.specs.declared.layout.Layout.{Layout}
 use Rattle.im_frame.specs.Layout.{rooms, places_from}
 use Rattle.im_select_addresses.specs.Addresses.{AreLayouts}
 use Rattle.im_select_addresses.specs.Statics.{objects_of}
-use Rattle.im_select_statics.specs.Named.{AreNamed}
+use Rattle.im_select_addresses.specs.Named.{AreNamed}
 use Rattle.im_link.specs.Code.{IsLinkable, IsLinked as IsLinkedCode}
 use Rattle.im_link_laws.specs.Program.{IsProgram}
 use Rattle.im_link_laws.specs.Linking.{ArePlaces}
 use Rattle.im_link_laws.specs.Laws.{IsLoaded, HasObjects}
 use Rattle.im_keeps.specs.Keeps.{IsInput}
-use Rattle.im_keeps_written.specs.Written.{IsWritten}
+use Rattle.im_keeps_run.specs.Written.{IsWritten}
 use Rattle.im_pack.specs.Packed.{IsPacked, IsLoadable}
 use Rattle.im_pack_laws.specs.Places.{label_place, setting_of, linking_in}
 

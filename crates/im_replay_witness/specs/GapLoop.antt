@@ -4,7 +4,7 @@ use Rattle.im_rv.specs.Encode.{encoded}
 use Rattle.im_replay.specs.Uninterrupted.{uninterrupted}
 use Rattle.im_replay_witness.specs.Images.{with_runtime}
 use Rattle.im_replay_witness.specs.Loop.{call_line, back_line, loop_memory}
-use Rattle.im_gap_flow.specs.Flows.{IsPlaced}
+use Rattle.im_gap.specs.Flows.{IsPlaced}
 
 unfoldable pub loop_words : List ℕ
 loop_words = map encoded (with_runtime (call_line ∷ back_line ∷ []))

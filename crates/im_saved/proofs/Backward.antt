@@ -16,7 +16,7 @@ use Rattle.im_ckpt.proofs.Slots.{saves_if}
 use Rattle.im_ckpt.proofs.Rungs.{entry_line, ladder_reg, ladder_store, reg_named, store_back, shift_back, flip_back}
 use Rattle.im_ckpt.proofs.Phases.{Climbing, entry_line_at, ladder_line_at, climb_store, return_line_at, effect_is, enters, in_entry, on_ladder, at_return, comes_back}
 use Rattle.im_replay.specs.Needed.{uses}
-use Rattle.im_gap_flow.specs.Flows.{IsAt}
+use Rattle.im_gap.specs.Flows.{IsAt}
 use Rattle.im_keeps_until.specs.Until.{IsUsedAt}
 use Rattle.im_saved.specs.Liveness.{uses_register, IsCutTo, IsLiveness, EntersByCuts}
 use Rattle.im_saved.specs.Laws.{BeginsAt, KeepsToCode, LivesUntil, LiveLaw}

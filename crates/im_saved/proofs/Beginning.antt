@@ -10,8 +10,8 @@ use Rattle.im_replay.proofs.Endless.{is_run}
 use Rattle.im_replay.proofs.Images.{zeros, words as registers}
 use Rattle.im_keeps.specs.Keeps.{IsInput}
 use Rattle.im_keeps_run.specs.Laws.{run_of}
-use Rattle.im_keeps_written.specs.Written.{IsWritten, IsLoaded, IsBegun}
-use Rattle.im_keeps_written.specs.Laws.{WrittenLaw}
+use Rattle.im_keeps_run.specs.Written.{IsWritten, IsLoaded, IsBegun}
+use Rattle.im_keeps_run.specs.WrittenLaws.{WrittenLaw}
 use Rattle.im_saved.specs.Laws.{BeginsAt, LiveLaw}
 use Rattle.im_saved.specs.ImageLaws.{ImageLaw}
 

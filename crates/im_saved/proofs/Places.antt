@@ -26,8 +26,8 @@ use Rattle.im_ckpt.proofs.Phases.{Phase, Outside, Enters, none_kept, mem_next, n
 use Rattle.im_gap.specs.declared.flow.Turn.{Turn}
 use Rattle.im_gap.specs.declared.flow.Turn.TheVariants.{Jumps, Branches, Passes, Returns, Stops}
 use Rattle.im_gap.specs.Flow.{turn_by, turn_of, imm_of, is_flip, links, links_by, IsBehind, Leads, Flow}
-use Rattle.im_gap_flow.specs.Flows.{IsAt, GoesBehindCall}
-use Rattle.im_gap_flow.proofs.Rows.{holds_code, fetched_word, step_law}
+use Rattle.im_gap.specs.Flows.{IsAt, GoesBehindCall}
+use Rattle.im_gap.proofs.Rows.{holds_code, fetched_word, step_law}
 use Rattle.im_saved.specs.Liveness.{sets_register, names_target, IsCutTo, EntersByCuts}
 use Rattle.im_saved.specs.Laws.{BeginsAt, KeepsToCode}
 use Rattle.im_saved.proofs.Rows.{place_by, Way, Over, To, Back, Halts, way, link_of, stop_of, sets_same, goes_on}

@@ -3,7 +3,7 @@ use Rattle.std.specs.Prelude.{ℕ, Bool, List}
 use Rattle.im_image.specs.Contents.{ImageValue}
 use Rattle.im_keeps.specs.Keeps.{IsInput}
 use Rattle.im_keeps_run.specs.Laws.{run_of}
-use Rattle.im_keeps_written.specs.Written.{IsWritten}
+use Rattle.im_keeps_run.specs.Written.{IsWritten}
 use Rattle.im_saved.specs.Liveness.{IsLiveness, EntersByCuts}
 use Rattle.im_saved.specs.Laws.{KeepsToCode, LivesUntil}
 

@@ -11,7 +11,7 @@ use Rattle.im_ckpt.specs.Buffers.{is_fixed}
 use Rattle.im_ckpt.specs.Laws.{is_runtime, IsCut, HasRuntime}
 use Rattle.im_gap.specs.declared.flow.Turn.TheVariants.{Returns}
 use Rattle.im_gap.specs.Flow.{turn_of, links}
-use Rattle.im_gap_flow.specs.Flows.{IsAt, GoesBehindCall}
+use Rattle.im_gap.specs.Flows.{IsAt, GoesBehindCall}
 use Rattle.im_keeps_until.specs.Until.{IsUsedAt}
 use Rattle.im_saved.specs.Liveness.{IsLiveness, EntersByCuts}
 

@@ -19,8 +19,8 @@ use Rattle.im_live.specs.Reads.{reads_stack, reads, called, writes, exit_live, l
 use Rattle.im_live.specs.Entries.{entry_of, entry_in, entries}
 use Rattle.im_live.proofs.Paths.{lives_more, lives_found}
 use Rattle.im_live.proofs.Least.{entry_within, entry_saves}
-use Rattle.im_saved_lines.specs.Laws.{HoldsCalls, IsHeld, SavesFrom}
-use Rattle.im_saved_lines.proofs.Scanning.{both, both_are, either, or_left, or_right, same_of, IsUnsaved, unsaved_not, or_unsaved}
+use Rattle.im_saved_code.specs.LinesLaws.{HoldsCalls, IsHeld, SavesFrom}
+use Rattle.im_saved_code.proofs.Scanning.{both, both_are, either, or_left, or_right, same_of, IsUnsaved, unsaved_not, or_unsaved}
 use Rattle.im_saved_code.proofs.Lists.{all_at}
 
 -- ---- registers of placed code are below 32

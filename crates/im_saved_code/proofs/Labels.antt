@@ -7,9 +7,9 @@ use Rattle.im_block.specs.declared.unit.Function.{Function}
 use Rattle.im_block.specs.Shape.{sum_of}
 use Rattle.im_select.specs.Emitted.{entry_label}
 use Rattle.im_link_laws.specs.Program.{first_label}
-use Rattle.im_saved_lines.specs.Scan.{is_base}
-use Rattle.im_saved_lines.specs.Laws.{lives_inside, IsLow, HasEntries, HasBlocks}
-use Rattle.im_saved_lines.proofs.Scanning.{both, both_are, either, or_left, or_right}
+use Rattle.im_saved_code.specs.Scan.{is_base}
+use Rattle.im_saved_code.specs.LinesLaws.{lives_inside, IsLow, HasEntries, HasBlocks}
+use Rattle.im_saved_code.proofs.Scanning.{both, both_are, either, or_left, or_right}
 
 less_is : (a b : ℕ) → a < b → nat_lt a b ≡ true
 less_is a b h = grind (arith, nat_tests)

@@ -5,3 +5,10 @@ pub mod Parts
 pub mod Words
 pub mod Living
 pub mod Whole
+pub mod Scanning
+pub mod Plain
+pub mod Working
+pub mod Selected
+pub mod Order
+pub mod Blocks
+pub mod Routines

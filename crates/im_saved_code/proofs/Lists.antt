@@ -6,8 +6,8 @@ use Rattle.im_rv.specs.declared.code.Line.{Line}
 use Rattle.im_rv.specs.declared.code.Part.{Part}
 use Rattle.im_rv.specs.Lines.{CodeLine, code_line, code_lines}
 use Rattle.im_link.specs.Parts.{lines_of}
-use Rattle.im_saved_lines.specs.Scan.{After, nothing, before, scan, IsSoundLine, AreSound}
-use Rattle.im_saved_lines.proofs.Scanning.{sound_append}
+use Rattle.im_saved_code.specs.Scan.{After, nothing, before, scan, IsSoundLine, AreSound}
+use Rattle.im_saved_code.proofs.Scanning.{sound_append}
 
 pub all_at : {X : Type 0} (P : X → Type 0) (xs : List X) (i : ℕ) (x : X) → All P xs → slice_get xs i ≡ Some x → P x
 all_at P xs i x a e = subst P (get_or_from_slice_get xs i x x e) (a i x (slice_get_within xs i x e))

@@ -16,9 +16,9 @@ use Rattle.im_gap.specs.declared.flow.Turn.{Turn}
 use Rattle.im_gap.specs.declared.flow.Turn.TheVariants.{Passes, Jumps, Branches, Returns, Stops}
 use Rattle.im_gap.specs.Flow.{turn_of, imm_of, links_by, links, IsBehind, Leads, Flow}
 use Rattle.im_link.specs.Links.{StandsAt, Does, AreWordsOf}
-use Rattle.im_saved_lines.specs.Scan.{way, is_base, is_returned, After, nothing, at_target, onward, lives_at, before, GoesTo, Goes, IsSoundLine, AreSound}
-use Rattle.im_saved_lines.specs.Laws.{IsLow}
-use Rattle.im_saved_lines.proofs.Scanning.{both, both_are, either, or_left, or_right, is_not, same_of, same_is, IsUnsaved, unsaved_not, unsaved_true, or_unsaved}
+use Rattle.im_saved_code.specs.Scan.{way, is_base, is_returned, After, nothing, at_target, onward, lives_at, before, GoesTo, Goes, IsSoundLine, AreSound}
+use Rattle.im_saved_code.specs.LinesLaws.{IsLow}
+use Rattle.im_saved_code.proofs.Scanning.{both, both_are, either, or_left, or_right, is_not, same_of, same_is, IsUnsaved, unsaved_not, unsaved_true, or_unsaved}
 use Rattle.im_saved.specs.Liveness.{has_result, uses_register, sets_register, IsCutTo, IsLiveness, names_target, EntersByCuts}
 use Rattle.im_saved_code.proofs.Lists.{after_of, after_at, sound_at, over_is, code_at}
 use Rattle.im_saved_code.proofs.Words.{Word, word_of, no_word, resultless, turn_way, links_is, jumps_is}

@@ -23,12 +23,12 @@ use Rattle.im_select.specs.Emitted.{entry_label, call_code, function_code}
 use Rattle.im_select.specs.Places.{at_of}
 use Rattle.im_link_laws.specs.Program.{HasCode, routine_part, part_of, first_label, given_at, start_code, IsProgram}
 use Rattle.im_link_laws.proofs.Services.{routine_there, PartAt, ServicePart, StackPart, LaterPart, part_at}
-use Rattle.im_saved_lines.specs.Scan.{is_base, is_returned, After, scan, AreSound}
-use Rattle.im_saved_lines.specs.Laws.{IsLow, IsHeld, SavesFrom, laid}
-use Rattle.im_saved_lines.proofs.Scanning.{both, or_left, or_right, same_is, IsUnsaved, unsaved_true, sound_append}
-use Rattle.im_saved_lines.proofs.Selected.{jump_before, jump_sound}
-use Rattle.im_saved_lines.proofs.Blocks.{function_lines}
-use Rattle.im_saved_lines.proofs.Routines.{routine_lines}
+use Rattle.im_saved_code.specs.Scan.{is_base, is_returned, After, scan, AreSound}
+use Rattle.im_saved_code.specs.LinesLaws.{IsLow, IsHeld, SavesFrom, laid}
+use Rattle.im_saved_code.proofs.Scanning.{both, or_left, or_right, same_is, IsUnsaved, unsaved_true, sound_append}
+use Rattle.im_saved_code.proofs.Selected.{jump_before, jump_sound}
+use Rattle.im_saved_code.proofs.Blocks.{function_lines}
+use Rattle.im_saved_code.proofs.Routines.{routine_lines}
 use Rattle.im_saved_code.proofs.Lists.{all_at}
 use Rattle.im_saved_code.proofs.Held.{held, held_lives, is_held, saves}
 use Rattle.im_saved_code.proofs.Labels.{at_labels, labels_low, labels_entries, labels_blocks}

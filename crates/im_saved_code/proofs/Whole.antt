@@ -26,7 +26,7 @@ use Rattle.im_select.specs.Selects.{HasLabel}
 use Rattle.im_link_laws.specs.Program.{HasCode, part_of, IsProgram}
 use Rattle.im_link_laws.proofs.Runtimes.{saved_there, size_of}
 use Rattle.im_link_laws.proofs.Standing.{behind}
-use Rattle.im_saved_lines.specs.Scan.{is_base, nothing, lives_at}
+use Rattle.im_saved_code.specs.Scan.{is_base, nothing, lives_at}
 use Rattle.im_saved_code.specs.Laws.{IsLiveCode, LiveCodeLaw}
 use Rattle.im_saved_code.proofs.Lists.{parts_sound, code_at}
 use Rattle.im_saved_code.proofs.Words.{Word, word_of, no_word}

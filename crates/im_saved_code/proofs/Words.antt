@@ -14,8 +14,8 @@ use Rattle.im_rv.specs.Code.{instruction_at}
 use Rattle.im_gap.specs.declared.flow.Turn.TheVariants.{Passes, Jumps, Stops}
 use Rattle.im_gap.specs.Flow.{is_flip, turn_by, links_by}
 use Rattle.im_link.specs.Links.{Does, AreWordsOf}
-use Rattle.im_saved_lines.specs.Scan.{way}
-use Rattle.im_saved_lines.proofs.Scanning.{same_of}
+use Rattle.im_saved_code.specs.Scan.{way}
+use Rattle.im_saved_code.proofs.Scanning.{same_of}
 use Rattle.im_saved.specs.Liveness.{has_result}
 
 -- word i, which does what the line does

@@ -9,8 +9,8 @@ use Rattle.im_rv.specs.Decode.{Line as Instruction}
 use Rattle.im_rv.specs.Steps.{sum_of}
 use Rattle.im_rv.specs.Lines.{plain_line}
 use Rattle.im_rv_reach.specs.Instructions.{with_immediate}
-use Rattle.im_select_operators.specs.Tables.{by_sign}
-use Rattle.im_select_operators.proofs.Words.{word_small}
+use Rattle.im_select_relation.specs.OperatorTables.{by_sign}
+use Rattle.im_select_relation.proofs.Words.{word_small}
 use Rattle.im_store.specs.declared.operators.BinaryOp.{BinaryOp}
 use Rattle.im_store.specs.declared.operators.BinaryOp.TheVariants.{Add, Subtract, Multiply, Divide, Remainder, BitAnd, BitOr, BitXor, ShiftLeft, ShiftRight}
 use Rattle.im_store.specs.Objects.{Name}

@@ -7,7 +7,7 @@ use Rattle.im_num.specs.Kinds.{word}
 use Rattle.im_rv.specs.declared.instr.Op.TheVariants.{Addi, Add as AddOp, Mul}
 use Rattle.im_rv.specs.Lines.{CodeLine, plain_line}
 use Rattle.im_rv_reach.specs.Instructions.{Splits, with_immediate, on_registers, upper, jumping}
-use Rattle.im_select_operators.proofs.Words.{word_small}
+use Rattle.im_select_relation.proofs.Words.{word_small}
 use Rattle.im_store.specs.declared.operators.UnaryOp.TheVariants.{Negate, Complement}
 use Rattle.im_store.specs.declared.operators.Comparison.TheVariants.{Less as LessThan, Greater, LessOrEqual, GreaterOrEqual, Equal, NotEqual}
 use Rattle.im_store.specs.Objects.{Name, Named, Slot}

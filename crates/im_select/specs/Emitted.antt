@@ -9,7 +9,7 @@ use Rattle.im_rv.specs.declared.instr.Op.TheVariants.{Jalr, Bgeu, Lw, Sw, Addi, 
 use Rattle.im_rv.specs.Decode.{Line as Instruction}
 use Rattle.im_rv.specs.Lines.{CodeLine, plain_line}
 use Rattle.im_rv_reach.specs.Instructions.{with_immediate, on_registers, storing, branching, upper, jumping}
-use Rattle.im_select_operators.specs.Tables.{load_op, store_op, by_sign, operation, less_op}
+use Rattle.im_select_relation.specs.OperatorTables.{load_op, store_op, by_sign, operation, less_op}
 use Rattle.im_store.specs.declared.operators.BinaryOp.{BinaryOp}
 use Rattle.im_store.specs.declared.operators.BinaryOp.TheVariants.{Add, Subtract, BitAnd, BitOr, BitXor, ShiftLeft, ShiftRight}
 use Rattle.im_store.specs.declared.operators.UnaryOp.{UnaryOp}

@@ -3,8 +3,8 @@ ghost use Rattle.im_num.specs.Kinds as kinds;
 ghost use Rattle.im_rv.specs.declared.format.Format.TheVariants.{Register};
 ghost use Rattle.im_rv.specs.Formats.{format_of};
 ghost use Rattle.im_rv.specs.Lines.{code_lines};
-ghost use Rattle.im_select_operators.specs.Tables as tables;
-ghost use Rattle.im_select_operators.specs.Tables.{operation, less_op};
+ghost use Rattle.im_select_relation.specs.OperatorTables as tables;
+ghost use Rattle.im_select_relation.specs.OperatorTables.{operation, less_op};
 ghost use Rattle.im_select.specs.Emitted.{copied_code, converted_code, shifted_code, shift_of, shifts_code, scaled_code, scaled_register, unary_code, not_code, computed_code, less_code, not_less_code, compared_code, pointer_code, distance_code};
 
 use crate::push::{on_registers, push, with_immediate};

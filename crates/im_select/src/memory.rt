@@ -1,7 +1,7 @@
 ghost use Rattle.std.specs.Prelude.{◌≡◌, ◌<◌, ◌++◌, length, OnOk, IfOk};
 ghost use Rattle.im_rv.specs.declared.format.Format.TheVariants.{Immediate, Store};
 ghost use Rattle.im_rv.specs.Formats.{format_of};
-ghost use Rattle.im_select_operators.specs.Tables.{load_op, store_op};
+ghost use Rattle.im_select_relation.specs.OperatorTables.{load_op, store_op};
 ghost use Rattle.im_rv.specs.Lines.{code_lines};
 ghost use Rattle.im_store.specs.Objects.{Slot};
 ghost use Rattle.im_alloc_placed.specs.Operands.{IsHome, PlaceAtHome, PlaceExists};

@@ -1,7 +1,7 @@
 ghost use Rattle.std.specs.Prelude.{◌≡◌, ◌<◌, ◌≤◌, [], length, IfOk, IfSome};
 ghost use Rattle.im_frame.specs.Layout.{bytes_of};
 ghost use Rattle.im_live.specs.Words.{IsMachineLine};
-ghost use Rattle.im_select_operators.specs.Tables.{IsPromoted};
+ghost use Rattle.im_select_relation.specs.OperatorTables.{IsPromoted};
 ghost use Rattle.im_select_relation.specs.Selected.{IsHome};
 ghost use Rattle.im_select.specs.Places.{IsTest};
 

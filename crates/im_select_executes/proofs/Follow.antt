@@ -18,7 +18,7 @@ use Rattle.im_rv_reach.specs.Plain.{AreAllowed, IsPlain}
 use Rattle.im_image.specs.Contents.{ImageValue}
 use Rattle.im_device.specs.Load.{memory_of}
 use Rattle.im_device.specs.Shows.{output_of, reason_of, status_of}
-use Rattle.im_select_operators.proofs.Words.{wrap_signed}
+use Rattle.im_select_relation.proofs.Words.{wrap_signed}
 use Rattle.im_ckpt.specs.Runs.{State, line_at, effect_at, ends, writes}
 use Rattle.im_ckpt.specs.Buffers.{is_buffer, is_fixed}
 use Rattle.im_ckpt.specs.Laws.{is_runtime}
@@ -26,7 +26,7 @@ use Rattle.im_replay.specs.Output.{Extends}
 use Rattle.im_replay.proofs.Bridge.{off_of}
 use Rattle.im_replay.proofs.Endless.{is_run}
 use Rattle.im_replay.proofs.Images.{bytes}
-use Rattle.im_select_statics.specs.Named.{ShownLaw}
+use Rattle.im_select_addresses.specs.Named.{ShownLaw}
 use Rattle.im_store.specs.Outcomes.{Outcome, Undef, More, End, IsDefined}
 use Rattle.im_typed.specs.Sound.{EndsRight}
 use Rattle.im_block.specs.declared.unit.Unit.{Unit as Code}
@@ -39,14 +39,14 @@ use Rattle.im_select_relation.specs.Law.{Touches, Begun, ShowsStatics, machine_i
 use Rattle.im_keeps.specs.Keeps.{IsInput}
 use Rattle.im_keeps_run.specs.Laws.{run_of}
 use Rattle.im_keeps_until.specs.Until.{halt_line, OwesUntil}
-use Rattle.im_keeps_written.specs.Written.{code_end, IsLoaded, IsBegun}
-use Rattle.im_keeps_written.specs.Laws.{WrittenLaw}
+use Rattle.im_keeps_run.specs.Written.{code_end, IsLoaded, IsBegun}
+use Rattle.im_keeps_run.specs.WrittenLaws.{WrittenLaw}
 use Rattle.im_keeps_passes.specs.Machine.{EndsBefore, ShowsAfter, Follows, Executes}
 use Rattle.im_keeps_passes.specs.Passes.{IsSelectable}
 use Rattle.im_select_executes.specs.Executing.{first_cpu, cuts, IsInImage, ShowsObjects, HasLiveness}
 use Rattle.im_saved.specs.Laws.{KeepsToCode, LivesUntil}
 use Rattle.im_saved.specs.ImageLaws.{ImageLaw}
-use Rattle.im_gap_flow.specs.Flows.{IsAt}
+use Rattle.im_gap.specs.Flows.{IsAt}
 use Rattle.im_select_executes.proofs.Returning.{place_of_word}
 use Rattle.im_select_executes.specs.Laws.{ExecutesLaw, ObjectsLaw}
 use Rattle.im_select_executes.proofs.Mirror.{Mirrors, mirrors, stands}

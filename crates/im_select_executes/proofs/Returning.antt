@@ -16,7 +16,7 @@ use Rattle.im_rv_reach.specs.Plain.{returns_by, is_return, IsBehindCall}
 use Rattle.im_ckpt.specs.Runs.{State}
 use Rattle.im_gap.specs.declared.flow.Turn.TheVariants.{Returns, Passes, Stops}
 use Rattle.im_gap.specs.Flow.{is_flip, turn_by, turn_of, links, IsBehind}
-use Rattle.im_gap_flow.proofs.Rows.{holds_code, fetched_word}
+use Rattle.im_gap.proofs.Rows.{holds_code, fetched_word}
 use Rattle.im_select_executes.specs.Survives.{GoesPlainly, HasCode, ReturnsBehindCalls}
 use Rattle.im_select_executes.proofs.Fetches.{code_kept, place_even}
 

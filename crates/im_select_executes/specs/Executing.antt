@@ -19,7 +19,7 @@ use Rattle.im_select_relation.specs.Linking.{Linking}
 use Rattle.im_select_relation.specs.Linked.{IsLinked}
 use Rattle.im_select_relation.specs.Law.{is_nothing, ShowsStatics}
 use Rattle.im_keeps_run.specs.Laws.{run_of}
-use Rattle.im_keeps_written.specs.Written.{IsWritten}
+use Rattle.im_keeps_run.specs.Written.{IsWritten}
 use Rattle.im_saved.specs.Liveness.{IsLiveness, EntersByCuts}
 
 -- the processor behind the first recovery

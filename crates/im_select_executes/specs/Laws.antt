@@ -4,7 +4,7 @@ use Rattle.im_image.specs.Contents.{ImageValue}
 use Rattle.im_block.specs.declared.unit.Unit.{Unit as Code}
 use Rattle.im_block.specs.Meaning.{Setting, statics_of}
 use Rattle.im_select_relation.specs.Linking.{Linking}
-use Rattle.im_select_statics.specs.Named.{AreNamed}
+use Rattle.im_select_addresses.specs.Named.{AreNamed}
 use Rattle.im_keeps.specs.Keeps.{IsInput}
 use Rattle.im_keeps_passes.specs.Machine.{Executes}
 use Rattle.im_keeps_passes.specs.Passes.{IsSelectable}

@@ -11,7 +11,7 @@ use Rattle.im_ckpt.specs.Buffers.{is_buffer}
 use Rattle.im_ckpt.specs.Laws.{is_runtime}
 use Rattle.im_gap.specs.declared.flow.Turn.TheVariants.{Returns}
 use Rattle.im_gap.specs.Flow.{turn_of}
-use Rattle.im_gap_flow.specs.Flows.{IsAt, GoesBehindCall}
+use Rattle.im_gap.specs.Flows.{IsAt, GoesBehindCall}
 use Rattle.im_rv_reach.specs.Touches.{touched, heard}
 use Rattle.im_rv_reach.specs.Orderly.{IsOrderly}
 use Rattle.im_rv_reach.specs.Plain.{IsPlain}

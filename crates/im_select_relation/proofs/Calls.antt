@@ -20,8 +20,8 @@ use Rattle.im_rv_reach.specs.Instructions.{Holds, Fixed, with_immediate, storing
 use Rattle.im_rv_reach.specs.Routines.{Words}
 use Rattle.im_rv_reach.proofs.Reach.{plus_is, join, no_back, behind_kept, puts, leaps, loads, stores, then_stops, data_load, data_store, output_told, output_written, left_written}
 use Rattle.im_rv_reach.proofs.Orderly.{joined, load_orderly, store_orderly}
-use Rattle.im_select_operators.specs.Tables.{extension_of, cell_word}
-use Rattle.im_select_operators.proofs.Words.{word_small, word_of, word_wrap32}
+use Rattle.im_select_relation.specs.OperatorTables.{extension_of, cell_word}
+use Rattle.im_select_relation.proofs.Words.{word_small, word_of, word_wrap32}
 use Rattle.im_store.specs.Checks.{Fine}
 use Rattle.im_store.specs.Objects.{Name, Slot, Link, Object, Value, Number, Null, Pointer, Unset, Shape, begins, shape_with, values_with, shape_without}
 use Rattle.im_store.specs.Outcomes.{Undef, More, End, variables}

@@ -9,8 +9,8 @@ use Rattle.im_num.specs.Bytes.{bytes_of}
 use Rattle.im_mem.specs.Memory.{Mem, little, is_place, written}
 use Rattle.im_mem.proofs.Words.{little-alike, little-other, written-below, written-small}
 use Rattle.im_rv.specs.Steps.{extended}
-use Rattle.im_select_operators.specs.Tables.{extension_of, cell_word}
-use Rattle.im_select_operators.proofs.Words.{loaded_wrap}
+use Rattle.im_select_relation.specs.OperatorTables.{extension_of, cell_word}
+use Rattle.im_select_relation.proofs.Words.{loaded_wrap}
 use Rattle.im_store.specs.Checks.{Fine}
 use Rattle.im_store.specs.Objects.{Object, Value, Number, Null, Pointer, Unset, Shape, same_kind, same_object}
 use Rattle.im_store.specs.Access.{with_value}
@@ -102,7 +102,7 @@ ptr_back : (k : Kind) (w : ℕ) → k ≡ Ptr → back_word k w ≡ w % 2 ^ 32
 ptr_back k w e = ap (λ z. back_word z w) e
 
 pub means_word : (p : Linking) (v : Value) (w : ℕ) → Means p v w → Means p v (w % 2 ^ 32)
-means_word p (Number z) w m = (let e : w % 2 ^ 32 ≡ w = (let s = Rattle.im_select_operators.proofs.Words.word_small z in let a = m in omega (arith, a)) in e ∙ m)
+means_word p (Number z) w m = (let e : w % 2 ^ 32 ≡ w = (let s = Rattle.im_select_relation.proofs.Words.word_small z in let a = m in omega (arith, a)) in e ∙ m)
 means_word p Null w m = let a = m in omega (arith, a)
 means_word p (Pointer o i) w m = (let a = m.0 in omega (arith, a), m.1, m.2)
 means_word p Unset w m = tt

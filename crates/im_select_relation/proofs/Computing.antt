@@ -15,10 +15,10 @@ use Rattle.im_rv_reach.specs.Plain.{returns_by}
 use Rattle.im_rv_reach.specs.Instructions.{Holds, Fixed, with_immediate, on_registers}
 use Rattle.im_rv_reach.proofs.Reach.{plus_is, nothing, join, puts}
 use Rattle.im_rv_reach.specs.Reach.{plus, Reach}
-use Rattle.im_select_operators.specs.Tables.{by_sign, less_op}
-use Rattle.im_select_operators.proofs.Words.{word_wrap, loaded_wrap}
-use Rattle.im_select_operators.proofs.Division.{narrowed_u8, narrowed_u16, narrowed_i8, narrowed_i16}
-use Rattle.im_select_operators.proofs.Comparisons.{word_less, outcome, less_row, turned}
+use Rattle.im_select_relation.specs.OperatorTables.{by_sign, less_op}
+use Rattle.im_select_relation.proofs.Words.{word_wrap, loaded_wrap}
+use Rattle.im_select_relation.proofs.Division.{narrowed_u8, narrowed_u16, narrowed_i8, narrowed_i16}
+use Rattle.im_select_relation.proofs.Comparisons.{word_less, outcome, less_row, turned}
 use Rattle.im_store.specs.declared.operators.Comparison.{Comparison}
 use Rattle.im_select_relation.specs.Linking.{Linking}
 use Rattle.im_select_relation.specs.Selected.{Constant, Copied, Already, Moved, Converted, Whole, Masked, Narrowed, Scaled, Bytes, Shifted, Multiplied, unused_bits, Compared, Lesser, Larger, NotLarger, NotLesser, Same, Other}

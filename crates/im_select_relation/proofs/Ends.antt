@@ -16,8 +16,8 @@ use Rattle.im_rv.proofs.Straight.{same_reg, other_reg}
 use Rattle.im_store.specs.declared.operators.Comparison.{Comparison}
 use Rattle.im_store.specs.declared.operators.Comparison.TheVariants.{Less, Greater, LessOrEqual, GreaterOrEqual, Equal, NotEqual}
 use Rattle.im_store.specs.Objects.{Value}
-use Rattle.im_select_operators.specs.Tables.{by_sign}
-use Rattle.im_select_operators.proofs.Comparisons.{word_less, outcome, no_difference, some_difference}
+use Rattle.im_select_relation.specs.OperatorTables.{by_sign}
+use Rattle.im_select_relation.proofs.Comparisons.{word_less, outcome, no_difference, some_difference}
 use Rattle.im_rv_reach.specs.Touches.{Stored}
 use Rattle.im_rv_reach.specs.Plain.{in_runtime}
 use Rattle.im_rv_reach.specs.Reach.{Reach, Stopped}

@@ -15,7 +15,7 @@ use Rattle.im_rv_reach.specs.Reach.{plus, Reach}
 use Rattle.im_rv_reach.specs.Instructions.{Holds, Fixed, with_immediate, storing}
 use Rattle.im_rv_reach.proofs.Reach.{plus_is, join, puts, loads, stores, data_load, data_store, output_written, left_written}
 use Rattle.im_rv_reach.proofs.Orderly.{load_orderly, store_orderly}
-use Rattle.im_select_operators.specs.Tables.{load_op, store_op, extension_of, cell_word}
+use Rattle.im_select_relation.specs.OperatorTables.{load_op, store_op, extension_of, cell_word}
 use Rattle.im_store.specs.Checks.{Checked, Fine}
 use Rattle.im_store.specs.Objects.{Link, Object, Value, Store}
 use Rattle.im_block.specs.declared.code.Line.{Line}

@@ -21,3 +21,8 @@ pub mod Separate
 pub mod Sections
 pub mod Whole
 pub mod Lift
+pub mod Words
+pub mod Arithmetic
+pub mod Division
+pub mod Comparisons
+pub mod Agreement

@@ -19,11 +19,11 @@ use Rattle.im_rv_reach.specs.Reach.{plus}
 use Rattle.im_rv_reach.specs.Instructions.{Holds, with_immediate, on_registers, storing, upper, jumping}
 use Rattle.im_rv_reach.specs.Routines.{Done, Called}
 use Rattle.im_rv_reach.proofs.Reach.{join, next_pc, no_back, leaps}
-use Rattle.im_select_operators.specs.Tables.{IsPromoted, by_sign, store_op, operation}
-use Rattle.im_select_operators.proofs.Words.{word_small}
-use Rattle.im_select_operators.proofs.Arithmetic.{negated_word}
-use Rattle.im_select_operators.proofs.Division.{complemented_word}
-use Rattle.im_select_operators.proofs.Comparisons.{word_less, outcome, compares_word}
+use Rattle.im_select_relation.specs.OperatorTables.{IsPromoted, by_sign, store_op, operation}
+use Rattle.im_select_relation.proofs.Words.{word_small}
+use Rattle.im_select_relation.proofs.Arithmetic.{negated_word}
+use Rattle.im_select_relation.proofs.Division.{complemented_word}
+use Rattle.im_select_relation.proofs.Comparisons.{word_less, outcome, compares_word}
 use Rattle.im_store.specs.declared.operators.BinaryOp.{BinaryOp}
 use Rattle.im_store.specs.declared.operators.BinaryOp.TheVariants.{Add, Subtract, Multiply, Divide, Remainder, BitAnd, BitOr, BitXor, ShiftLeft, ShiftRight}
 use Rattle.im_store.specs.declared.operators.UnaryOp.TheVariants.{Negate, Complement}

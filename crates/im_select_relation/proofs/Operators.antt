@@ -10,10 +10,10 @@ use Rattle.im_rv.specs.declared.effect.Effect.TheVariants.{Puts}
 use Rattle.im_rv.specs.Steps.{sum_of, as_number as number_as, difference_of, row, signed, shift_right, shift_right_signed}
 use Rattle.im_rv.specs.declared.instr.Op.{Op}
 use Rattle.im_rv.specs.declared.instr.Op.TheVariants.{Sra, Srl, Srai, Srli}
-use Rattle.im_select_operators.specs.Tables.{IsPromoted, operation}
-use Rattle.im_select_operators.proofs.Words.{word_of, word_small, word_wrap, wrap_unsigned, wrap_signed}
-use Rattle.im_select_operators.proofs.Arithmetic.{sum_word, difference_word, word_product, and_word, or_word, xor_word, shifted_word}
-use Rattle.im_select_operators.proofs.Division.{unsigned_quotient, unsigned_remainder, signed_quotient, signed_remainder, signed_shift, unsigned_shift}
+use Rattle.im_select_relation.specs.OperatorTables.{IsPromoted, operation}
+use Rattle.im_select_relation.proofs.Words.{word_of, word_small, word_wrap, wrap_unsigned, wrap_signed}
+use Rattle.im_select_relation.proofs.Arithmetic.{sum_word, difference_word, word_product, and_word, or_word, xor_word, shifted_word}
+use Rattle.im_select_relation.proofs.Division.{unsigned_quotient, unsigned_remainder, signed_quotient, signed_remainder, signed_shift, unsigned_shift}
 use Rattle.im_store.specs.declared.undefined.Undefined.TheVariants.{ShiftCount}
 use Rattle.im_store.specs.declared.operators.BinaryOp.{BinaryOp}
 use Rattle.im_store.specs.declared.operators.BinaryOp.TheVariants.{Add, Subtract, Multiply, Divide, Remainder, BitAnd, BitOr, BitXor, ShiftLeft, ShiftRight}

@@ -7,7 +7,7 @@ use Rattle.im_rv.proofs.Straight.{same_reg, other_reg}
 use Rattle.im_rv_reach.specs.Reach.{Reach}
 use Rattle.im_rv_reach.specs.Instructions.{Fixed, Splits, on_registers, upper}
 use Rattle.im_rv_reach.proofs.Reach.{nothing, join, puts}
-use Rattle.im_select_operators.proofs.Words.{word_small}
+use Rattle.im_select_relation.proofs.Words.{word_small}
 use Rattle.im_store.specs.Checks.{Fine}
 use Rattle.im_store.specs.Objects.{Named, static, Value, Number, Null, Pointer, Unset, Store}
 use Rattle.im_block.specs.declared.code.Place.{Place}

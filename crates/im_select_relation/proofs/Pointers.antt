@@ -6,10 +6,10 @@ use Rattle.std.proofs.lemmas.Int.{ints}
 use Rattle.std.proofs.lemmas.Bool.Decides.{nat_tests}
 use Rattle.im_num.specs.Kinds.{word}
 use Rattle.im_rv.specs.Steps.{sum_of, difference_of, signed, quotient}
-use Rattle.im_select_operators.proofs.Words.{as_word, word_of, signed_low, signed_high, below_or_not}
-use Rattle.im_select_operators.proofs.Arithmetic.{word_product}
-use Rattle.im_select_operators.proofs.Division.{quotient_word}
-use Rattle.im_select_operators.proofs.Comparisons.{outcome, no_difference, some_difference, compares_shifted}
+use Rattle.im_select_relation.proofs.Words.{as_word, word_of, signed_low, signed_high, below_or_not}
+use Rattle.im_select_relation.proofs.Arithmetic.{word_product}
+use Rattle.im_select_relation.proofs.Division.{quotient_word}
+use Rattle.im_select_relation.proofs.Comparisons.{outcome, no_difference, some_difference, compares_shifted}
 use Rattle.im_store.specs.Checks.{Fine}
 use Rattle.im_store.specs.declared.operators.Comparison.{Comparison}
 use Rattle.im_store.specs.declared.operators.Comparison.TheVariants.{Less, Greater, LessOrEqual, GreaterOrEqual, Equal, NotEqual}

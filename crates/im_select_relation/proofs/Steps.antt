@@ -20,7 +20,7 @@ use Rattle.im_rv_reach.specs.Reach.{plus, Reach}
 use Rattle.im_rv_reach.specs.Instructions.{jumping}
 use Rattle.im_rv_reach.proofs.Reach.{plus_is, nothing, no_back, leaps, begins_trans, before_or_after}
 use Rattle.im_rv_reach.proofs.Orderly.{joined}
-use Rattle.im_select_operators.specs.Tables.{cell_word}
+use Rattle.im_select_relation.specs.OperatorTables.{cell_word}
 use Rattle.im_store.specs.Checks.{Fine}
 use Rattle.im_store.specs.declared.operators.BinaryOp.{BinaryOp}
 use Rattle.im_store.specs.Objects.{Name, Named, Slot, Link, Object, static, Value, Number, Null, Unset, Shape, Store}

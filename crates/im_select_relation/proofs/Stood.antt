@@ -8,7 +8,7 @@ use Rattle.im_rv_reach.specs.Touches.{Touch, heard}
 use Rattle.im_rv_reach.specs.Orderly.{IsOrderly}
 use Rattle.im_rv_reach.specs.Shown.{shown}
 use Rattle.im_rv_reach.specs.Reach.{Reach}
-use Rattle.im_select_operators.specs.Tables.{IsPromoted}
+use Rattle.im_select_relation.specs.OperatorTables.{IsPromoted}
 use Rattle.im_store.specs.declared.operators.Comparison.{Comparison}
 use Rattle.im_store.specs.Checks.{Checked, Fine, Bad}
 use Rattle.im_store.specs.Objects.{Value, Number}

@@ -3,7 +3,7 @@ use Rattle.std.proofs.Common.{◌≡◌, ◌≢◌, ℕ, ◌+◌, ◌^◌, ◌<�
 use Rattle.std.specs.Prelude.{◌==◌, ◌&&◌, nat_lt, not}
 use Rattle.std.proofs.lemmas.Bool.Decides.{nat_tests}
 use Rattle.im_rv.specs.Steps.{sum_of, difference_of, as_number}
-use Rattle.im_select_operators.proofs.Words.{word_of}
+use Rattle.im_select_relation.proofs.Words.{word_of}
 use Rattle.im_store.specs.Checks.{Fine, unless}
 use Rattle.im_store.specs.declared.undefined.Undefined.{Undefined}
 use Rattle.im_store.specs.Objects.{Name, Named, Slot, Link, Object, Value, Number, Pointer, Shape, Store, same_name, same_object, is_there, lives}

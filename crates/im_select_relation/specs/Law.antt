@@ -24,7 +24,7 @@ use Rattle.im_block.specs.Sections.{Item, Reader, Writer, Break, NoWar, items}
 use Rattle.im_block.specs.Forced.{AllForced}
 use Rattle.im_block.specs.Shape.{Weights, words_of, exit_words, spent, after}
 use Rattle.im_block.specs.Wellformed.{IsWellFormed}
-use Rattle.im_select_operators.specs.Tables.{cell_word}
+use Rattle.im_select_relation.specs.OperatorTables.{cell_word}
 use Rattle.im_select_relation.specs.Linking.{Linking, address, Means}
 use Rattle.im_select_relation.specs.Linked.{IsLinked}
 

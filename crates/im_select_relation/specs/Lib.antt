@@ -4,3 +4,5 @@ pub mod Linked
 pub mod Law
 pub mod Symbolic
 pub mod Jumps
+pub mod OperatorTables
+pub mod OperatorLaws

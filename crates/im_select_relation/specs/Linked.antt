@@ -18,7 +18,7 @@ use Rattle.im_block.specs.declared.unit.Function.{Function}
 use Rattle.im_block.specs.declared.unit.Unit.{Unit as Code}
 use Rattle.im_store.specs.Statics.{static_shapes, static_values}
 use Rattle.im_block.specs.Meaning.{Setting, shapes_of, statics_of}
-use Rattle.im_select_operators.specs.Tables.{cell_word}
+use Rattle.im_select_relation.specs.OperatorTables.{cell_word}
 use Rattle.im_select_relation.specs.Linking.{Linking, LaidOut, Means, frame_of, limit_of, runtime}
 use Rattle.im_select_relation.specs.Selected.{Prologue, Stands, IsEntry}
 

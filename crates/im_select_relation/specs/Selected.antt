@@ -11,7 +11,7 @@ use Rattle.im_rv.specs.Steps.{sum_of}
 use Rattle.im_rv_reach.specs.Instructions.{Holds, Splits, with_immediate, on_registers, storing, branching, upper, jumping}
 use Rattle.im_store.specs.declared.operators.BinaryOp.{BinaryOp}
 use Rattle.im_store.specs.declared.operators.BinaryOp.TheVariants.{Add, Subtract, BitAnd, BitOr, BitXor, ShiftLeft, ShiftRight}
-use Rattle.im_select_operators.specs.Tables.{IsPromoted, by_sign, load_op, store_op, operation, less_op}
+use Rattle.im_select_relation.specs.OperatorTables.{IsPromoted, by_sign, load_op, store_op, operation, less_op}
 use Rattle.im_store.specs.declared.operators.UnaryOp.TheVariants.{Negate, Complement}
 use Rattle.im_store.specs.declared.operators.Comparison.{Comparison}
 use Rattle.im_store.specs.declared.operators.Comparison.TheVariants.{Less, Greater, LessOrEqual, GreaterOrEqual, Equal, NotEqual}

@@ -10,7 +10,7 @@ use Rattle.im_rv.specs.declared.instr.Op.TheVariants.{Jalr, Bltu, Bgeu, Lw, Sw, 
 use Rattle.im_rv.specs.Decode.{Line as Instruction}
 use Rattle.im_rv.specs.Lines.{CodeLine}
 use Rattle.im_rv_reach.specs.Instructions.{Holds, Splits, with_immediate, on_registers, storing, branching, upper, jumping}
-use Rattle.im_select_operators.specs.Tables.{IsPromoted, by_sign, load_op, store_op, operation, less_op}
+use Rattle.im_select_relation.specs.OperatorTables.{IsPromoted, by_sign, load_op, store_op, operation, less_op}
 use Rattle.im_store.specs.declared.operators.BinaryOp.{BinaryOp}
 use Rattle.im_store.specs.declared.operators.UnaryOp.TheVariants.{Negate, Complement}
 use Rattle.im_store.specs.declared.operators.Comparison.{Comparison}

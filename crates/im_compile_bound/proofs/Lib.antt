@@ -1,3 +1,0 @@
-mod Bounded
-mod Rows
-mod FunctionBounded

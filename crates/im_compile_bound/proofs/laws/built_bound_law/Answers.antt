@@ -1,5 +1,0 @@
-use Rattle.im_compile_bound.proofs.Bounded.{bounded}
-use Rattle.im_compile_bound.proofs.laws.built_bound_law.Goals as goal
-
-pub returns : goal.returns
-returns c = bounded c.ready_law.ensures c.function_bound_law.ensures

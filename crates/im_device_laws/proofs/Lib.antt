@@ -1,2 +1,0 @@
-pub mod Untorn
-pub mod Loaded

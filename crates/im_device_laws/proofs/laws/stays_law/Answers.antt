@@ -1,5 +1,0 @@
-use Rattle.im_device.proofs.Runs.{power_over}
-use Rattle.im_device_laws.proofs.laws.stays_law.Goals as goal
-
-pub returns : goal.returns
-returns c = power_over

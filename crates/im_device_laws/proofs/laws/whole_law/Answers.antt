@@ -1,5 +1,0 @@
-use Rattle.im_device_laws.proofs.Untorn.{torn_none}
-use Rattle.im_device_laws.proofs.laws.whole_law.Goals as goal
-
-pub returns : goal.returns
-returns c = torn_none

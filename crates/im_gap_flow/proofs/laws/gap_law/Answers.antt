@@ -1,5 +1,0 @@
-use Rattle.im_gap_flow.proofs.Lengths.{gap_law}
-use Rattle.im_gap_flow.proofs.laws.gap_law.Goals as goal
-
-pub returns : goal.returns
-returns c = gap_law

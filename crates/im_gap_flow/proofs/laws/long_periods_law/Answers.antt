@@ -1,5 +1,0 @@
-use Rattle.im_gap_flow.proofs.Progress.{long_periods_law}
-use Rattle.im_gap_flow.proofs.laws.long_periods_law.Goals as goal
-
-pub returns : goal.returns
-returns c = long_periods_law

@@ -1,5 +1,0 @@
-use Rattle.im_gap_flow.proofs.Lengths.{one_gap_law}
-use Rattle.im_gap_flow.proofs.laws.one_gap_law.Goals as goal
-
-pub returns : goal.returns
-returns c = one_gap_law

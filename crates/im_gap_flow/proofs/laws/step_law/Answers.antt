@@ -1,5 +1,0 @@
-use Rattle.im_gap_flow.proofs.Rows.{step_law}
-use Rattle.im_gap_flow.proofs.laws.step_law.Goals as goal
-
-pub returns : goal.returns
-returns c = step_law

@@ -1,5 +1,0 @@
-use Rattle.im_keeps_written.proofs.Loading.{all}
-use Rattle.im_keeps_written.proofs.laws.written_law.Goals as goal
-
-pub returns : goal.returns
-returns c = all c.loaded_law.ensures c.boot_law.ensures

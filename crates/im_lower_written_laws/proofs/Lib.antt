@@ -1,4 +1,0 @@
-pub mod Ways
-pub mod Values
-pub mod Statements
-pub mod Whole

@@ -1,5 +1,0 @@
-use Rattle.im_saved_lines.proofs.Blocks.{function_lines}
-use Rattle.im_saved_lines.proofs.laws.function_lines_law.Goals as goal
-
-pub returns : goal.returns
-returns c = function_lines

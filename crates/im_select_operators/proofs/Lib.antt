@@ -1,5 +1,0 @@
-pub mod Words
-pub mod Arithmetic
-pub mod Division
-pub mod Comparisons
-pub mod Agreement

@@ -1,5 +1,0 @@
-use Rattle.im_select_operators.proofs.Agreement.{words_agree}
-use Rattle.im_select_operators.proofs.laws.words_agree_law.Goals as goal
-
-pub returns : goal.returns
-returns c = words_agree

@@ -1,3 +1,0 @@
-mod Pointers
-mod Values
-mod Shown
