@@ -1,5 +1,5 @@
 -- The program of a unit that is typed and within the limits.
-use Rattle.std.proofs.Common.{◌≡◌, ◌≤◌, ℕ, List, [], ◌∷◌, ◌++◌, map, refl, ap, ◌∙◌, arith}
+use Rattle.std.proofs.Common.{◌≡◌, ◌≤◌, ℕ, List, [], ◌∷◌, ◌++◌, map, refl, ap, ◌∙◌, subst, arith}
 use Rattle.std.specs.Prelude.{Contains}
 use Rattle.im_ctree.specs.Tree as t
 use Rattle.im_check_externals.specs.im_store.Statics.{StaticObject}
@@ -9,10 +9,10 @@ use Rattle.im_typed.specs.Limits.{static_bytes}
 use Rattle.im_typed.specs.Program.{Func, Prog}
 use Rattle.im_typed.specs.ProgramOf.{static_of, func_of, program_of}
 use Rattle.im_check_externals.specs.im_ctype.Table.{Table}
-use Rattle.im_rules.specs.FileScope.{file_start}
+use Rattle.im_rules.specs.FileScope.{FilePlace, file_start}
 use Rattle.im_rules.specs.TypedUnit.{program, static_named, string_statics, TypedUnit, of_unit}
 use Rattle.im_rules.specs.UnitBreaks.{some_externals}
-use Rattle.im_rules.proofs.UnitOnce.{unit_once}
+use Rattle.im_rules.proofs.UnitOnce.{externals_once, unit_once}
 use Rattle.im_rules_limits.specs.Limits as l
 use Rattle.im_rules_limits.proofs.First.{first-among}
 use Rattle.im_typed.specs.StructsLaws.{StatementsLaw, ObjectsLaw}
@@ -46,10 +46,12 @@ statics_same {p = p} h g m =
 
 -- the limits
 
-pub within : {u : t.Tree} {p : Parts} (h : UnitTyped u p) → l.IsFileWithin (file_start u) (some_externals u) → ((n : ℕ) → Contains (l.parameter_counts u) n → n ≤ l.parameter_limit) → static_bytes (meant h).statics ≤ 1048576
+pub within : {u : t.Tree} {p : Parts} (h : UnitTyped u p) → l.IsFileWithin (file_start u) (some_externals u) → ((n : ℕ) → Contains (l.parameter_counts (file_place_of p.file).context.scopes u) n → n ≤ l.parameter_limit) → static_bytes (meant h).statics ≤ 1048576
     → l.IsWithinLimits u
-within {u = u} h sizes few small l.of_parameters n (l.too_many_parameters first) =
-    let le = few n (first-among (l.parameter_counts u) n first) in
+within {u = u} h sizes few small l.of_parameters n (l.too_many_parameters {e = e} typed first) =
+    let same = (externals_once typed h.typed).2 in
+    let among = first-among (l.parameter_counts e.context.scopes u) n first in
+    let le = few n (subst (λ (f : FilePlace). Contains (l.parameter_counts f.context.scopes u) n) same among) in
     let over = first.over in
     absurd (omega arith)
 within h sizes few small l.of_size n (l.too_large size over) = let le = sizes n size in absurd (omega arith)

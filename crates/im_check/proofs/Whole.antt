@@ -17,7 +17,7 @@ use Rattle.im_check_externals.specs.Externals.{ExternalsDone}
 use Rattle.im_check_externals.specs.Faults.{IsExternalsFault}
 use Rattle.im_check_externals.proofs.Large.{among_sized}
 use Rattle.im_check.specs.declared.fault.CheckFault.{CheckFault}
-use Rattle.im_check.specs.declared.fault.CheckFault.TheVariants.{Rule, Limit, Large, OutOfMemory}
+use Rattle.im_check.specs.declared.fault.CheckFault.TheVariants.{Rule, Crowded, Large, Statics, OutOfMemory}
 use Rattle.im_check.specs.Checked.{IsCheckFault}
 use Rattle.im_check.specs.Stops.{IsRuleFault, fault_of}
 use Rattle.im_check.specs.Units.{UnitTyped}
@@ -47,6 +47,7 @@ pub main_fault : (u : t.Tree) (before after : File) (done : UnitDefined) (x : Ch
 main_fault u before after done (Rule rule token) begun h r =
     let typed : AreExternals (file_start u) u (first_values_in done.firsts.items) h.made (file_place_of after) = subst (λ (p : FilePlace). AreExternals p u (first_values_in done.firsts.items) h.made (file_place_of after)) begun h.typed in
     subst (λ k. UnitBroken u rule k) (sym r.1) (at_unit typed r.0)
-main_fault u before after done (Limit which count) begun h r = absurd r
+main_fault u before after done (Crowded words token name) begun h r = absurd r
 main_fault u before after done (Large bytes token name) begun h r = absurd r
+main_fault u before after done (Statics bytes) begun h r = absurd r
 main_fault u before after done OutOfMemory begun h r = tt

@@ -1,19 +1,26 @@
 -- What is answered of counts over their limits.
-use Rattle.std.specs.Prelude.{◌≡◌, ◌<◌}
-use Rattle.im_ctree.specs.Tree as t
+use Rattle.std.specs.Prelude.{◌≡◌, ◌<◌, List}
 use Rattle.im_typed.specs.Limits.{static_bytes}
 use Rattle.im_typed.specs.Program.{Prog}
-use Rattle.im_rules_limits.specs.Limits.{parameter_counts, IsFirstOver}
+use Rattle.im_rules.specs.Scopes.{Scopes}
+use Rattle.im_rules_limits.specs.Limits.{Head}
+use Rattle.im_check_counts.specs.declared.crowded.Crowded.{Crowded as Found}
+use Rattle.im_check_counts.specs.Crowded.{CrowdedAmong}
 use Rattle.im_check.specs.declared.fault.CheckFault.{CheckFault}
-use Rattle.im_check.specs.declared.fault.CheckFault.TheVariants.{Limit, OutOfMemory}
-use Rattle.im_check.specs.declared.fault.Limit.TheVariants.{Parameters, Statics}
+use Rattle.im_check.specs.declared.fault.CheckFault.TheVariants.{Crowded, Statics, OutOfMemory}
 
-abbrev pub IsOverParameters : t.Tree → CheckFault → Type 0
-IsOverParameters u (Limit Parameters count) = IsFirstOver (parameter_counts u) count
-IsOverParameters u OutOfMemory = Unit {0}
-IsOverParameters u _ = ⊥
+-- this is told of a function that is found
+abbrev pub IsToldOf : Found → CheckFault → Type 0
+IsToldOf found (Crowded words token name) = (words ≡ found.words) × (token ≡ found.at) × (name.items ≡ found.name.now)
+IsToldOf found OutOfMemory = Unit {0}
+IsToldOf found _ = ⊥
+
+abbrev pub IsOverParameters : Scopes → List Head → CheckFault → Type 0
+IsOverParameters g hs (Crowded words token name) = CrowdedAmong g hs words token name.items
+IsOverParameters g hs OutOfMemory = Unit {0}
+IsOverParameters g hs _ = ⊥
 
 abbrev pub IsOverStatics : Prog → CheckFault → Type 0
-IsOverStatics g (Limit Statics count) = (count ≡ static_bytes g.statics) × (1048576 < count)
+IsOverStatics g (Statics bytes) = (bytes ≡ static_bytes g.statics) × (1048576 < bytes)
 IsOverStatics g OutOfMemory = Unit {0}
 IsOverStatics g _ = ⊥

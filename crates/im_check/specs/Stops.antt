@@ -4,7 +4,7 @@ use Rattle.im_rules.specs.Demands.{Demand, Refuses}
 use Rattle.im_check_externals.specs.declared.fault.UnitFault.{UnitFault}
 use Rattle.im_check_externals.specs.declared.fault.UnitFault.TheVariants as u
 use Rattle.im_check.specs.declared.fault.CheckFault.{CheckFault}
-use Rattle.im_check.specs.declared.fault.CheckFault.TheVariants.{Rule, Limit, Large, OutOfMemory}
+use Rattle.im_check.specs.declared.fault.CheckFault.TheVariants.{Rule, Crowded, Large, Statics, OutOfMemory}
 
 abbrev pub fault_of : UnitFault → CheckFault
 fault_of (u.Rule number token) = Rule number token
@@ -14,6 +14,7 @@ fault_of u.Memory = OutOfMemory
 -- a rule refuses, at a unit's first token; or memory ran out
 abbrev pub IsRuleFault : List Demand → CheckFault → Type 0
 IsRuleFault asked (Rule number token) = Refuses number asked × (token ≡ 0)
-IsRuleFault asked (Limit which count) = ⊥
+IsRuleFault asked (Crowded words token name) = ⊥
 IsRuleFault asked (Large bytes token name) = ⊥
+IsRuleFault asked (Statics bytes) = ⊥
 IsRuleFault asked OutOfMemory = Unit {0}

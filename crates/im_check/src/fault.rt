@@ -6,24 +6,20 @@ use im_check_externals::UnitFault;
 use im_ctree::Name;
 use im_num::NoMemory;
 
-/// What is counted and has a limit: the parameters of one function, and the bytes of all statics.
-#[derive(Clone, Copy, PartialEq, Eq, Debug)]
-pub enum Limit {
-    Parameters,
-    Statics,
-}
-
 /// Why a tree isn't checked to a program.
 #[derive(Debug, Drop)]
 pub enum CheckFault {
     /// The rule of that number is broken by a node whose first token is that one.
     Rule { number: u32, token: u32 },
-    /// A count is over its limit.
-    Limit { which: Limit, count: u64 },
+    /// The parameters of a function take that many words of 4 bytes, which is over the limit of 8.
+    /// Its declarator has this first token and this name.
+    Crowded { words: u64, token: u32, name: Name },
     /// A type has that many bytes, which is over the limit of 1048576. It was met in the declarator
     /// of this name, or in a function with it, or in specifiers, which have no name; the token is
     /// their first.
     Large { bytes: u64, token: u32, name: Name },
+    /// All statics have that many bytes, which is over their limit of 1048576.
+    Statics { bytes: u64 },
     OutOfMemory,
 }
 

@@ -7,4 +7,4 @@ mod limits;
 mod units;
 
 pub use checker::check;
-pub use fault::{CheckFault, Limit};
+pub use fault::CheckFault;

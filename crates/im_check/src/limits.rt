@@ -1,27 +1,41 @@
 //! Counts of a unit, and their limits.
 ghost use Rattle.std.specs.Prelude.{◌≡◌, ◌≤◌, ℕ, ◌+◌, ◌*◌, ◌/◌, Contains, MatchResult, IfOk};
-ghost use Rattle.im_ctree.specs.Tree as t;
-ghost use Rattle.im_check_counts.specs.Counts.{IsOver};
+ghost use Rattle.im_check_counts.specs.Heads.{heads_in};
+ghost use Rattle.im_check_scopes.specs.Shape.{scopes_of};
 ghost use Rattle.im_typed.specs.Limits.{static_bytes};
 ghost use Rattle.im_typed.specs.ProgramOf.{program_of};
 ghost use Rattle.im_rules_limits.specs.Limits as l;
-ghost use Rattle.im_check.specs.Counts.{IsOverParameters, IsOverStatics};
+ghost use Rattle.im_check.specs.Counts.{IsOverParameters, IsOverStatics, IsToldOf};
 
-use crate::fault::{CheckFault, Limit};
+use crate::fault::CheckFault;
+use im_check_counts::{Crowded, Head, first_crowded};
+use im_check_scopes::Scope;
 use im_num::NoMemory;
 use im_typed::{Prog, Static};
+use std::alloc::Global;
 
-/// Whether no function has more than 8 parameters; `over` is the first count that is more.
-pub fn are_few(over: Option<usize>) -> Result<(), CheckFault>
-    ensures { (u : t.Tree) → IsOver (l.parameter_counts u) over → MatchResult result
-        (λ _. (n : ℕ) → Contains (l.parameter_counts u) n → n ≤ 8) (IsOverParameters u) }
+fn crowded(alloc: Global, function: Crowded<'_>) -> CheckFault
+    ensures { IsToldOf function.entry result }
 {
-    match over {
+    match Vec::from_slice(alloc, function.name) {
+        Ok(name) => CheckFault::Crowded {
+            words: function.words,
+            token: function.at,
+            name,
+        },
+        Err(_) => CheckFault::OutOfMemory,
+    }
+}
+
+/// Whether the parameters of no function take more than 8 words, by the types that the functions'
+/// names have in these scopes.
+pub fn are_few(alloc: Global, scope: &Scope, heads: &[Head]) -> Result<(), CheckFault>
+    ensures { let g = scopes_of scope.now in let hs = heads_in heads.now in MatchResult result
+        (λ _. (n : ℕ) → Contains (l.words_taken g hs) n → n ≤ 8) (IsOverParameters g hs) }
+{
+    match first_crowded(scope, heads)? {
         None => Ok(()),
-        Some(count) => Err(CheckFault::Limit {
-            which: Limit::Parameters,
-            count: count as u64,
-        }),
+        Some(function) => Err(crowded(alloc, function)),
     }
 }
 
@@ -50,13 +64,10 @@ pub fn are_small(prog: &Prog) -> Result<(), CheckFault>
     ensures { MatchResult result (λ _. static_bytes (program_of prog.now).statics ≤ 1048576)
         (IsOverStatics (program_of prog.now)) }
 {
-    let count = bytes_of_statics(prog)?;
-    if count <= 1048576 {
+    let bytes = bytes_of_statics(prog)?;
+    if bytes <= 1048576 {
         Ok(())
     } else {
-        Err(CheckFault::Limit {
-            which: Limit::Statics,
-            count,
-        })
+        Err(CheckFault::Statics { bytes })
     }
 }

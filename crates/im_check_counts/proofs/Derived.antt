@@ -17,7 +17,7 @@ use Rattle.im_check_outline.specs.im_rules.Rules.{is_typedef}
 use Rattle.im_check_outline.specs.im_rules.TypeTests.{same_name}
 use Rattle.im_check_name_map.specs.Numbers.{number_of}
 use Rattle.im_check_counts.specs.declared.derivations.Deep.{Deep}
-use Rattle.im_check_counts.specs.Crowded.{first_token}
+use Rattle.im_check_outline.specs.im_rules.BodyBreaks.{declarator_token}
 use Rattle.im_check_counts.specs.Derivations.{Known, Derived, derivations_by, own_derivations, inner_derivations, derivation_limit, derived_from, derived_in, derived_by, derived_of, with_derived, known_behind, known_of, count_or_none, derived_as, none_known, derived_names, AreShallow, IsWalked, IsDeepIn}
 
 -- a declarator, by its parts
@@ -43,7 +43,7 @@ of_parts count token name = record { count = count; token = token; name = name }
 
 pub from_parts : (base : ℕ) (d : t.Declarator) (count token : ℕ) (name : List ℕ)
     → count ≡ base + own_derivations d
-    → token ≡ first_token d
+    → token ≡ declarator_token d
     → name ≡ name_of d
     → of_parts count token name ≡ derived_from base d
 from_parts base d count token name is_count is_token is_name = λ i. record { count = is_count i; token = is_token i; name = is_name i }

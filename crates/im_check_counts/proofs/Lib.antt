@@ -1,4 +1,5 @@
-pub mod Over
-pub mod Once
-pub mod Functions
+pub mod Rest
+pub mod Found
+pub mod Declarators
+pub mod Bytes
 pub mod Derived

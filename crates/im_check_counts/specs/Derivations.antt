@@ -6,7 +6,7 @@ use Rattle.im_check_outline.specs.im_rules.Outline.{name_of, typedef_in}
 use Rattle.im_check_outline.specs.im_rules.Rules.{is_typedef}
 use Rattle.im_check_outline.specs.im_rules.TypeTests.{same_name}
 use Rattle.im_check_name_map.specs.Numbers.{number_of}
-use Rattle.im_check_counts.specs.Crowded.{first_token}
+use Rattle.im_check_outline.specs.im_rules.BodyBreaks.{declarator_token}
 use Rattle.im_check_counts.specs.declared.derivations.Deep.{Deep}
 
 -- a declarator's own: each suffix is an array or a function, and each star a pointer (C11 6.7.6)
@@ -40,7 +40,7 @@ pub record Derived : Type 0 where
 
 -- that of a declarator behind specifiers whose type has so many
 abbrev pub derived_from : ℕ → t.Declarator → Derived
-derived_from base d = record { count = base + own_derivations d; token = first_token d; name = name_of d }
+derived_from base d = record { count = base + own_derivations d; token = declarator_token d; name = name_of d }
 
 abbrev pub derived_in : ℕ → t.InitDeclarators → List Derived
 derived_in base t.no_init_declarators = []

@@ -3,8 +3,9 @@
 
 mod crowded;
 mod derivations;
-mod parameters;
+mod heads;
+mod words;
 
 pub use crowded::{Crowded, first_crowded};
 pub use derivations::{Deep, first_deep};
-pub use parameters::too_many_parameters;
+pub use heads::{Head, function_heads};

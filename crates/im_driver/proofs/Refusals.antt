@@ -1,27 +1,20 @@
 -- Refusals of the driver's steps are refusals of the source.
-use Rattle.std.proofs.Common.{ℕ, List, Option, Err, refl}
+use Rattle.std.proofs.Common.{ℕ, List, Option, Err}
 use Rattle.im_fault.specs.declared.fault.LineFault.{LineFault}
 use Rattle.im_fault.specs.declared.fault.LineFault.TheVariants.{BadByte, OpenComment, OpenLiteral, BadEscape, BadNumber, BadDirective, Syntax, Nesting, Links, Rule}
 use Rattle.im_fault.specs.declared.fault.Place.{Place}
 use Rattle.im_fault.specs.declared.fault.Quantity.TheVariants.{Source, Parameters, Size, Statics, Frame, Code, Derivations}
 use Rattle.im_fault.specs.declared.fault.SourceFault.{SourceFault}
 use Rattle.im_fault.specs.declared.fault.SourceFault.TheVariants.{Line, Limit, OutOfMemory}
-use Rattle.im_front.specs.Reading.{IsRead, IsWrong, token_spans}
+use Rattle.im_front.specs.Reading.{IsRead, IsWrong}
 use Rattle.im_typed.specs.declared.program.Prog.{Prog}
 use Rattle.im_typed.specs.ProgramOf.{program_of}
-use Rattle.im_tok.specs.declared.token.Token.{Token}
-use Rattle.im_ctree.specs.declared.unit.Tree.{Tree}
-use Rattle.im_ctree.specs.Shape.{tree_of}
-use Rattle.im_check.specs.declared.fault.CheckFault.{CheckFault}
-use Rattle.im_check.specs.declared.fault.CheckFault.TheVariants as check
-use Rattle.im_check.specs.declared.fault.Limit.TheVariants as which
-use Rattle.im_check.specs.Checked.{IsCheckFault}
 use Rattle.im_compile.specs.declared.fault.CompileFault.{CompileFault}
 use Rattle.im_compile.specs.declared.fault.CompileFault.TheVariants as compile
 use Rattle.im_compile.specs.Faults.{IsFaultOf}
 use Rattle.im_keeps_built.specs.Laws.{RefusedLaw}
-use Rattle.im_driver.specs.Compiled.{IsTreeOf, IsRefused, IsLineRefused}
-use Rattle.im_driver.specs.Steps.{IsReady, fault_at, of_compile}
+use Rattle.im_driver.specs.Compiled.{IsRefused, IsLineRefused}
+use Rattle.im_driver.specs.Steps.{IsReady, of_compile}
 
 line_refused : (source : List ℕ) (place : Place) (why : LineFault) → IsWrong source place why → IsLineRefused source place why
 line_refused source place BadByte h = h
@@ -45,13 +38,6 @@ read_refused source (Limit Frame count) h = absurd h
 read_refused source (Limit Code count) h = absurd h
 read_refused source (Limit Derivations count) h = absurd h
 read_refused source OutOfMemory h = tt
-
-pub check_refused : (source : List ℕ) (tokens : List Token) (tree : Tree) (fault : CheckFault) → IsTreeOf source tokens tree → IsCheckFault (tree_of tree) fault → IsRefused source (fault_at source (token_spans tokens) fault)
-check_refused source tokens tree (check.Rule number token) is_tree h = record { tokens = tokens; tree = tree; is_tree = is_tree; token = token; broken = h; is_place = refl }
-check_refused source tokens tree (check.Limit which.Parameters count) is_tree h = record { tokens = tokens; tree = tree; is_tree = is_tree; exceeds = h }
-check_refused source tokens tree (check.Limit which.Statics count) is_tree h = record { tokens = tokens; tree = tree; is_tree = is_tree; exceeds = h.0; sizes = h.1 }
-check_refused source tokens tree (check.Large bytes token name) is_tree h = record { tokens = tokens; tree = tree; is_tree = is_tree; exceeds = h.exceeds }
-check_refused source tokens tree check.OutOfMemory is_tree h = tt
 
 pub made_refused : RefusedLaw → (source : List ℕ) (made : Prog) (max_gap : Option ℕ) (fault : CompileFault) → IsReady source made → IsFaultOf made max_gap fault → IsRefused source (of_compile fault)
 made_refused law source made max_gap (compile.Frame function bytes) r h = record { prog = program_of made; program = r.program; function = function; large = law.frame made max_gap function bytes r.is_source h }

@@ -17,8 +17,6 @@ use Rattle.im_typed.specs.declared.program.Prog.{Prog}
 use Rattle.im_typed.specs.ProgramOf.{func_of, program_of}
 use Rattle.im_check.specs.declared.fault.CheckFault.{CheckFault}
 use Rattle.im_check.specs.declared.fault.CheckFault.TheVariants as check
-use Rattle.im_check.specs.declared.fault.Limit.TheVariants as which
-use Rattle.im_check.specs.im_rules_limits.Limits as limits
 use Rattle.im_check.specs.Checked.{IsCheckFault}
 use Rattle.im_compile.specs.declared.fault.CompileFault.TheVariants as compile
 use Rattle.im_compile.specs.Faults.{HasLargeFrame, IsFaultOf}
@@ -26,9 +24,9 @@ use Rattle.im_compile.specs.Passed.{IsSource}
 use Rattle.im_keeps_built.specs.Laws.{IsLargeFrame, RefusedLaw}
 use Rattle.im_driver.specs.declared.refused.Refused.{Refused}
 use Rattle.im_driver.specs.Compiled.{IsTreeOf, IsRefused}
-use Rattle.im_driver.specs.Refused.{IsCountedOf, IsRefusedFor, IsSubject}
-use Rattle.im_driver.specs.Steps.{HasCrowded, IsDeepTold, IsFrameTold, IsReady, IsTooDeep, as_whole, counted_of, fault_at, of_compile, refused_at}
-use Rattle.im_driver.proofs.Refusals.{read_refused, check_refused, made_refused}
+use Rattle.im_driver.specs.Refused.{IsRefusedFor, IsSubject}
+use Rattle.im_driver.specs.Steps.{IsDeepTold, IsFrameTold, IsReady, IsTooDeep, as_whole, of_compile, refused_at}
+use Rattle.im_driver.proofs.Refusals.{read_refused, made_refused}
 
 read_subject : (source : List ℕ) (fault : SourceFault) → IsRead source (Err fault) → IsSubject source fault Whole
 read_subject source (Line place why) h = refl
@@ -48,25 +46,22 @@ pub starved : (source : List ℕ) → IsRefusedFor source (as_whole OutOfMemory)
 starved source = record { is_fault = tt; is_subject = refl }
 
 module _ (source : List ℕ) (tokens : List Token) (tree : Tree) (is_tree : IsTreeOf source tokens tree) where
-  first_of : (count : ℕ) → limits.Exceeds (tree_of tree) limits.of_parameters count → limits.IsFirstOver (limits.parameter_counts (tree_of tree)) count
-  first_of count (limits.too_many_parameters first) = first
-
-  crowded_subject : (count : ℕ) (crowded : Subject) → limits.IsFirstOver (limits.parameter_counts (tree_of tree)) count → HasCrowded source (token_spans tokens) (tree_of tree) crowded → IsCountedOf source Parameters count crowded
-  crowded_subject count Whole first has = absurd (has count first)
-  crowded_subject count (Named name) first has = absurd (has count first)
-  crowded_subject count (Declared place name) first has =
-      let h = has count first in
-      record { tokens = tokens; tree = tree; is_tree = is_tree; token = h.0; first = h.1; is_place = h.2 }
-
-  check_subject : (fault : CheckFault) (crowded : Subject) → IsCheckFault (tree_of tree) fault → HasCrowded source (token_spans tokens) (tree_of tree) crowded → IsSubject source (fault_at source (token_spans tokens) fault) (counted_of source (token_spans tokens) fault crowded)
-  check_subject (check.Rule number token) crowded h has = refl
-  check_subject (check.Limit which.Parameters count) crowded h has = crowded_subject count crowded (first_of count h) has
-  check_subject (check.Limit which.Statics count) crowded h has = refl
-  check_subject (check.Large bytes token name) crowded h has = record { tokens = tokens; tree = tree; is_tree = is_tree; token = token; first = h.first; is_place = refl }
-  check_subject check.OutOfMemory crowded h has = refl
-
-  pub check_refused_for : (fault : CheckFault) (crowded : Subject) → IsCheckFault (tree_of tree) fault → HasCrowded source (token_spans tokens) (tree_of tree) crowded → IsRefusedFor source (refused_at source (token_spans tokens) fault crowded)
-  check_refused_for fault crowded h has = record { is_fault = check_refused source tokens tree fault is_tree h; is_subject = check_subject fault crowded h has }
+  pub check_refused_for : (fault : CheckFault) → IsCheckFault (tree_of tree) fault → IsRefusedFor source (refused_at source (token_spans tokens) fault)
+  check_refused_for (check.Rule number token) h =
+      record { is_fault = record { tokens = tokens; tree = tree; is_tree = is_tree; token = token; broken = h; is_place = refl }; is_subject = refl }
+  check_refused_for (check.Crowded words token name) h =
+      record {
+        is_fault = record { tokens = tokens; tree = tree; is_tree = is_tree; exceeds = h.exceeds };
+        is_subject = record { tokens = tokens; tree = tree; is_tree = is_tree; token = token; first = h.first; is_place = refl };
+      }
+  check_refused_for (check.Large bytes token name) h =
+      record {
+        is_fault = record { tokens = tokens; tree = tree; is_tree = is_tree; exceeds = h.exceeds };
+        is_subject = record { tokens = tokens; tree = tree; is_tree = is_tree; token = token; first = h.first; is_place = refl };
+      }
+  check_refused_for (check.Statics bytes) h =
+      record { is_fault = record { tokens = tokens; tree = tree; is_tree = is_tree; exceeds = h.0; sizes = h.1 }; is_subject = refl }
+  check_refused_for check.OutOfMemory h = record { is_fault = tt; is_subject = refl }
 
   -- typedef names
 

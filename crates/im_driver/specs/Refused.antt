@@ -12,20 +12,19 @@ use Rattle.im_ctree.specs.declared.unit.Tree.{Tree}
 use Rattle.im_ctree.specs.Shape.{tree_of}
 use Rattle.im_front.specs.Reading.{place_of_token}
 use Rattle.im_typed.specs.Program.{Prog}
-use Rattle.im_check.specs.Checked.{IsFirstLarge}
-use Rattle.im_check_counts.specs.Crowded.{IsFirstCrowded, file_declarators}
+use Rattle.im_check.specs.Checked.{IsFirstCrowded, IsFirstLarge}
 use Rattle.im_check_counts.specs.Derivations.{Derived, derived_names, IsFirstDeep}
 use Rattle.im_keeps_built.specs.Laws.{IsLargeFrame}
 use Rattle.im_driver.specs.declared.refused.Refused.{Refused}
 use Rattle.im_driver.specs.Compiled.{IsTreeOf, IsProgramOf, IsRefused}
 
--- the source's first function with too many parameters has so many and this name; its declarator begins at the place
+-- the source's first function whose parameters take too many words has so many and this name; its declarator begins at the place
 pub record IsCrowdedFunction (source : List ℕ) (count : ℕ) (place : Place) (name : List ℕ) : Type 0 where
   pub tokens : List Token
   pub tree : Tree
   pub is_tree : IsTreeOf source tokens tree
   pub token : ℕ
-  pub first : IsFirstCrowded (file_declarators (tree_of tree)) count token name
+  pub first : IsFirstCrowded (tree_of tree) count token name
   pub is_place : place ≡ place_of_token source tokens token
 
 -- in the source's tree the first size over the limit is so many bytes, in the declarator of this name, with its initialiser,

@@ -1,5 +1,6 @@
 -- For private contracts: what the driver's steps lead to.
-use Rattle.std.specs.Prelude.{◌≡◌, ℕ, ◌<◌, ◌≤◌, List, All, length, slice_index}
+use Rattle.std.specs.Prelude.{◌≡◌, ℕ, ◌<◌, ◌≤◌, List, All, length, slice_index, Vec}
+use Rattle.std.specs.Global.{Global}
 use Rattle.im_fault.specs.declared.fault.LineFault.TheVariants.{Rule}
 use Rattle.im_fault.specs.declared.fault.Quantity.{Quantity}
 use Rattle.im_fault.specs.declared.fault.Quantity.TheVariants.{Source, Parameters, Size, Statics, Frame, Code, Derivations}
@@ -11,10 +12,6 @@ use Rattle.im_fault.specs.Texts.{limit_of}
 use Rattle.im_front.specs.Reading.{place_among}
 use Rattle.im_check.specs.declared.fault.CheckFault.{CheckFault}
 use Rattle.im_check.specs.declared.fault.CheckFault.TheVariants as check
-use Rattle.im_check.specs.declared.fault.Limit as k
-use Rattle.im_check.specs.declared.fault.Limit.TheVariants as which
-use Rattle.im_check.specs.im_rules_limits.Limits as limits
-use Rattle.im_check_counts.specs.Crowded.{IsFirstCrowded, file_declarators}
 use Rattle.im_check_counts.specs.Derivations.{Derived, derived_names, IsFirstDeep}
 use Rattle.im_compile.specs.declared.fault.CompileFault.{CompileFault}
 use Rattle.im_compile.specs.declared.fault.CompileFault.TheVariants as compile
@@ -59,39 +56,22 @@ KeptLaw =
 
 -- ---- faults of the steps as faults of the source
 
-abbrev pub quantity_of : k.Limit → Quantity
-quantity_of which.Parameters = Parameters
-quantity_of which.Statics = Statics
-
--- these are the bytes of the source's tokens
-abbrev pub fault_at : List ℕ → List (ℕ × ℕ) → CheckFault → SourceFault
-fault_at source spans (check.Rule number token) = Line (place_among source spans token) (Rule number)
-fault_at source spans (check.Limit which count) = Limit (quantity_of which) count
-fault_at source spans (check.Large bytes token name) = Limit Size bytes
-fault_at source spans check.OutOfMemory = OutOfMemory
-
 -- a fault of no one function or object
 abbrev pub as_whole : SourceFault → Refused
 as_whole fault = record { fault = fault; subject = Whole }
 
+-- one of what is declared at a token; these are the bytes of the source's tokens
+abbrev pub declared_at : List ℕ → List (ℕ × ℕ) → Quantity → ℕ → ℕ → Vec ℕ Global → Refused
+declared_at source spans quantity count token name =
+    record { fault = Limit quantity count; subject = Declared (place_among source spans token) name }
+
 -- parameters are counted of the function that has too many, and a size of what is declared there
-abbrev pub counted_of : List ℕ → List (ℕ × ℕ) → CheckFault → Subject → Subject
-counted_of source spans (check.Limit which.Parameters count) crowded = crowded
-counted_of source spans (check.Large bytes token name) crowded = Declared (place_among source spans token) name
-counted_of source spans fault crowded = Whole
-
-abbrev pub refused_at : List ℕ → List (ℕ × ℕ) → CheckFault → Subject → Refused
-refused_at source spans fault crowded = record { fault = fault_at source spans fault; subject = counted_of source spans fault crowded }
-
--- this is the function of a unit that has so many parameters, if a function has too many
-abbrev pub IsCrowdedSubject : List ℕ → List (ℕ × ℕ) → t.Tree → ℕ → Subject → Type 0
-IsCrowdedSubject source spans u count (Declared place name) =
-    (token : ℕ) × IsFirstCrowded (file_declarators u) count token name.items × (place ≡ place_among source spans token)
-IsCrowdedSubject source spans u count subject = ⊥
-
-abbrev pub HasCrowded : List ℕ → List (ℕ × ℕ) → t.Tree → Subject → Type 0
-HasCrowded source spans u subject =
-    (count : ℕ) → limits.IsFirstOver (limits.parameter_counts u) count → IsCrowdedSubject source spans u count subject
+abbrev pub refused_at : List ℕ → List (ℕ × ℕ) → CheckFault → Refused
+refused_at source spans (check.Rule number token) = as_whole (Line (place_among source spans token) (Rule number))
+refused_at source spans (check.Crowded words token name) = declared_at source spans Parameters words token name
+refused_at source spans (check.Large bytes token name) = declared_at source spans Size bytes token name
+refused_at source spans (check.Statics bytes) = as_whole (Limit Statics bytes)
+refused_at source spans check.OutOfMemory = as_whole OutOfMemory
 
 -- the first typedef name of a unit that stands for too many derivations is told, or memory ran out
 abbrev pub IsDeepTold : List ℕ → List (ℕ × ℕ) → t.Tree → SourceFault → Subject → Type 0

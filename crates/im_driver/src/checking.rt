@@ -1,79 +1,59 @@
-ghost use Rattle.std.specs.Prelude.{◌≡◌, ◌<◌, ◌^◌, length, ℕ, List, IfOk, MatchResult};
+ghost use Rattle.std.specs.Prelude.{◌≡◌, ◌<◌, ◌^◌, length, MatchResult};
 ghost use Rattle.im_ctree.specs.Tree as t;
 ghost use Rattle.im_ctree.specs.Shape.{tree_of};
 ghost use Rattle.im_driver.specs.Refused.{IsRefusedFor};
 ghost use Rattle.im_check_counts.specs.Derivations.{derived_as, derived_names, IsFirstDeep, IsShallowUnit};
-ghost use Rattle.im_driver.specs.Steps.{HasCrowded, IsReady, IsTooDeep, refused_at};
+ghost use Rattle.im_driver.specs.Steps.{IsReady, IsTooDeep, declared_at, refused_at};
 
 use crate::laws::{program_law, written_law};
 use crate::refused::{Refused, whole};
-use im_check::{CheckFault, Limit, check};
-use im_check_counts::{Deep, first_crowded, first_deep};
-use im_ctree::Tree;
+use im_check::{CheckFault, check};
+use im_check_counts::{Deep, first_deep};
+use im_ctree::{Name, Tree};
 use im_fault::{LineFault, Quantity, SourceFault, Subject};
 use im_front::{Text, place_of, read_source};
-use im_num::NoMemory;
 use im_typed::Prog;
 use std::alloc::Global;
 
-// A count of a tree is over its limit.
-fn counted(which: Limit, count: u64, crowded: Subject) -> Refused
-    ensures { (source : List ℕ) (spans : List (ℕ × ℕ))
-        → result ≡ refused_at source spans (CheckFault.Limit which count) crowded }
+// A quantity of what is declared at a token is over its limit.
+fn declared(
+    source: &[u8],
+    spans: &[(u32, u32)],
+    quantity: Quantity,
+    count: u64,
+    token: u32,
+    name: Name,
+) -> Refused
+    requires { length source.now < 2 ^ 31 }
+    ensures { result ≡ declared_at source.now spans.now quantity count token name }
 {
-    match which {
-        Limit::Parameters => Refused {
-            fault: SourceFault::Limit {
-                quantity: Quantity::Parameters,
-                count,
-            },
-            subject: crowded,
-        },
-        Limit::Statics => whole(SourceFault::Limit {
-            quantity: Quantity::Statics,
-            count,
-        }),
+    Refused {
+        fault: SourceFault::Limit { quantity, count },
+        subject: Subject::Declared(place_of(source, spans, token), name),
     }
 }
 
-// Why a source has no program, of whose tree this is told; these are the bytes of its tokens.
-fn untyped(source: &[u8], spans: &[(u32, u32)], fault: CheckFault, crowded: Subject) -> Refused
+// Why a source has no program; these are the bytes of its tokens.
+fn untyped(source: &[u8], spans: &[(u32, u32)], fault: CheckFault) -> Refused
     requires { length source.now < 2 ^ 31 }
-    ensures { result ≡ refused_at source.now spans.now fault crowded }
+    ensures { result ≡ refused_at source.now spans.now fault }
 {
     match fault {
         CheckFault::Rule { number, token } => whole(SourceFault::Line {
             place: place_of(source, spans, token),
             why: LineFault::Rule(number),
         }),
-        CheckFault::Limit { which, count } => counted(which, count, crowded),
-        CheckFault::Large { bytes, token, name } => Refused {
-            fault: SourceFault::Limit {
-                quantity: Quantity::Size,
-                count: bytes,
-            },
-            subject: Subject::Declared(place_of(source, spans, token), name),
-        },
-        CheckFault::OutOfMemory => whole(SourceFault::OutOfMemory),
-    }
-}
-
-// The first function with too many parameters, where there is one.
-fn crowded_of(
-    alloc: Global,
-    source: &[u8],
-    spans: &[(u32, u32)],
-    tree: &Tree,
-) -> Result<Subject, NoMemory>
-    requires { length source.now < 2 ^ 31 }
-    ensures { IfOk result (HasCrowded source.now spans.now (tree_of tree.now)) }
-{
-    match first_crowded(tree) {
-        None => Ok(Subject::Whole),
-        Some(function) => {
-            let name = Vec::from_slice(alloc, function.name)?;
-            Ok(Subject::Declared(place_of(source, spans, function.at), name))
+        CheckFault::Crowded { words, token, name } => {
+            declared(source, spans, Quantity::Parameters, words, token, name)
         }
+        CheckFault::Large { bytes, token, name } => {
+            declared(source, spans, Quantity::Size, bytes, token, name)
+        }
+        CheckFault::Statics { bytes } => whole(SourceFault::Limit {
+            quantity: Quantity::Statics,
+            count: bytes,
+        }),
+        CheckFault::OutOfMemory => whole(SourceFault::OutOfMemory),
     }
 }
 
@@ -122,16 +102,12 @@ pub(crate) fn typed_program(alloc: Global, source: &[u8]) -> Result<Prog, Refuse
         Ok(text) => text,
         Err(fault) => return Err(whole(fault)),
     };
-    let crowded = match crowded_of(alloc, source, &spans, &tree) {
-        Ok(crowded) => crowded,
-        Err(_) => return Err(whole(SourceFault::OutOfMemory)),
-    };
     match shallow(alloc, source, &spans, &tree) {
         Ok(()) => {}
         Err(refused) => return Err(refused),
     }
     match check(alloc, tree) {
         Ok(prog) => Ok(prog),
-        Err(fault) => Err(untyped(source, &spans, fault, crowded)),
+        Err(fault) => Err(untyped(source, &spans, fault)),
     }
 }

@@ -1,23 +1,44 @@
 -- The counts that exceed a limit by the relations do so by the functions, and the other way round; the first excess is one.
-use Rattle.std.proofs.Common.{◌≡◌, ◌⊎◌, inl, inr, ◌<◌, ℕ, [], Option, Some, None, refl, sym, ap, subst, Bool, true, false, arith}
+use Rattle.std.proofs.Common.{◌≡◌, ◌∙◌, ◌⊎◌, inl, inr, ◌<◌, ℕ, List, [], Option, Some, None, refl, sym, ap, subst, Bool, true, false, arith}
 use Rattle.std.specs.List.{Contains}
 use Rattle.im_rules.specs.im_ctree.Tree as t
 use Rattle.im_rules.specs.im_typed.Limits.{static_bytes}
-use Rattle.im_rules.specs.im_typed.Program.{Prog}
-use Rattle.im_rules.specs.FileScope.{file_start}
-use Rattle.im_rules.specs.TypedUnit.{TypedUnit}
+use Rattle.im_rules.specs.im_typed.Program.{Func, Prog}
+use Rattle.im_rules.specs.FileScope.{FilePlace, file_start}
+use Rattle.im_rules.specs.TypedUnit.{FirstValues, AreExternals, TypedUnit}
 use Rattle.im_rules.specs.UnitBreaks.{some_externals}
-use Rattle.im_rules_limits.specs.Limits.{Limit, of_parameters, of_size, of_statics, parameter_counts, IsFileWithin, Exceeds, too_many_parameters, too_large, too_many_statics}
+use Rattle.im_rules.proofs.UnitOnce.{externals_once}
+use Rattle.im_rules_limits.specs.Limits.{Limit, of_parameters, of_size, of_statics, parameter_limit, parameter_counts, IsFileWithin, Exceeds, too_many_parameters, too_large, too_many_statics}
 use Rattle.im_rules_asked.specs.Asked.{is_right}
-use Rattle.im_rules_asked.specs.Units.{unit, unit_asked}
-use Rattle.im_rules_asked.specs.Limits.{statics_where, statics_of, limit_of, counts_of, first_over, IsExcess, Excess, excess_or, first_excess_of}
+use Rattle.im_rules_asked.specs.Units.{externals, externals_asked, unit, unit_asked}
+use Rattle.im_rules_asked.specs.Limits.{parameters_where, words_of_parameters, first_above, statics_where, statics_of, limit_of, counts_of, first_over, IsExcess, Excess, excess_or, first_excess_of}
 use Rattle.im_rules_asked.proofs.Right.{so, of_right}
-use Rattle.im_rules_asked.proofs.BuiltUnits.{built_unit}
-use Rattle.im_rules_asked.proofs.RightUnits.{unit_right, unit_same}
+use Rattle.im_rules_asked.proofs.BuiltUnits.{built_externals, built_unit}
+use Rattle.im_rules_asked.proofs.RightUnits.{externals_right, unit_right, unit_same}
 use Rattle.im_rules_asked.proofs.Counting.{only_one, itself}
 use Rattle.im_rules_asked.proofs.Sized.{unit_has_size}
 use Rattle.im_rules_asked.proofs.SizedUnits.{unit_sized}
 use Rattle.im_rules_asked.proofs.Above.{none_above, some_above, no_above, is_first, first_is}
+
+-- the parameters of functions, where external declarations are right
+
+parameters_in : (u : t.Tree) (h : Bool) → h ≡ true → parameters_where h u ≡ parameter_counts (externals (file_start u) u).place.context.scopes u
+parameters_in u true p = refl
+parameters_in u false p = absurd (cc)
+
+typed_parameters : {u : t.Tree} {e : FilePlace} {gs : List FirstValues} {ks : List Func} → AreExternals (file_start u) u gs ks e
+    → words_of_parameters u ≡ parameter_counts e.context.scopes u
+typed_parameters {u = u} d =
+    let r = externals_right d in
+    parameters_in u (is_right (externals_asked (file_start u) u)) (of_right r)
+    ∙ ap (λ (g : FilePlace). parameter_counts g.context.scopes u) (sym (externals_once d (built_externals (file_start u) u r)).2)
+
+parameters_exceed : (u : t.Tree) (h : Bool) (n : ℕ) → is_right (externals_asked (file_start u) u) ≡ h
+    → first_above parameter_limit (parameters_where h u) ≡ Some n → Exceeds u of_parameters n
+parameters_exceed u true n r p =
+    too_many_parameters (built_externals (file_start u) u (so r))
+    (is_first (parameter_counts (externals (file_start u) u).place.context.scopes u) n p)
+parameters_exceed u false n r p = absurd (cc)
 
 -- the statics of a unit that is right
 
@@ -43,12 +64,13 @@ statics_exceed u n c over =
 -- one count
 
 pub excess_is : (u : t.Tree) (l : Limit) (n : ℕ) → Exceeds u l n → IsExcess u l n
-excess_is u l n (too_many_parameters h) = first_is (parameter_counts u) n h
+excess_is u l n (too_many_parameters {e = e} d h) =
+    ap (first_above parameter_limit) (typed_parameters d) ∙ first_is (parameter_counts e.context.scopes u) n h
 excess_is u l n (too_large h over) = (unit_has_size u n h, over)
 excess_is u l n (too_many_statics {g = g} d over) = (typed_statics u g d, over)
 
 pub is_excess : (u : t.Tree) (l : Limit) (n : ℕ) → IsExcess u l n → Exceeds u l n
-is_excess u of_parameters n h = too_many_parameters (is_first (parameter_counts u) n h)
+is_excess u of_parameters n h = parameters_exceed u (is_right (externals_asked (file_start u) u)) n refl h
 is_excess u of_size n h = too_large (unit_sized u n h.0) h.1
 is_excess u of_statics n h = statics_exceed u n h.0 h.1
 

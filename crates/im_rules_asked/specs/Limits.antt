@@ -1,11 +1,12 @@
--- Which count of a unit is over its limit, as functions: parameters, bytes of a type, bytes of all statics.
+-- Which count of a unit is over its limit, as functions: words of parameters, bytes of a type, bytes of all statics.
 use Rattle.std.specs.Prelude.{◌≡◌, ◌<◌, ℕ, Bool, List, [], ◌∷◌, Option, Some, None, nat_le, if◌then◌else◌}
 use Rattle.std.specs.List.{Contains}
 use Rattle.im_rules.specs.im_ctree.Tree as t
 use Rattle.im_rules.specs.im_typed.Limits.{static_bytes}
+use Rattle.im_rules.specs.FileScope.{file_start}
 use Rattle.im_rules_limits.specs.Limits.{Limit, of_parameters, of_size, of_statics, parameter_limit, parameter_counts, size_limit}
 use Rattle.im_rules_asked.specs.Asked.{Asked, node, sized, Parts, no_part, beside, behind, is_right, sizes, Fault, first_refused}
-use Rattle.im_rules_asked.specs.Units.{unit, unit_asked}
+use Rattle.im_rules_asked.specs.Units.{externals, externals_asked, unit, unit_asked}
 
 -- the sizes of the types that a unit names and completes, in source order; those behind something that is broken don't count
 abbrev pub sizes_of : t.Tree → List ℕ
@@ -13,6 +14,14 @@ sizes_of u = sizes (unit_asked u)
 
 abbrev pub HasSize : ℕ → t.Tree → Type 0
 HasSize n u = Contains (sizes_of u) n
+
+-- the words of the parameters of each function that is declared; only external declarations that are typed have some
+
+abbrev pub parameters_where : Bool → t.Tree → List ℕ
+parameters_where h u = if h then parameter_counts (externals (file_start u) u).place.context.scopes u else []
+
+abbrev pub words_of_parameters : t.Tree → List ℕ
+words_of_parameters u = parameters_where (is_right (externals_asked (file_start u) u)) u
 
 -- the bytes of all statics; only a unit that is typed has some
 
@@ -30,7 +39,7 @@ limit_of of_size = size_limit
 limit_of of_statics = 1048576
 
 abbrev pub counts_of : Limit → t.Tree → List ℕ
-counts_of of_parameters u = parameter_counts u
+counts_of of_parameters u = words_of_parameters u
 counts_of of_size u = sizes_of u
 counts_of of_statics u = statics_of u
 

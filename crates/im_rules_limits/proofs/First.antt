@@ -1,12 +1,13 @@
--- The first count over the limit.
+-- The first count over the limit, and counts of functions one behind the other.
 use mathlib.Core.Logic.{dite}
-use Rattle.std.proofs.Common.{◌≤◌, ◌⊎◌, ℕ, zero, suc, List, [], ◌∷◌, ◌++◌, inl, inr, refl, sym, ap, subst, ◌∙◌, arith}
+use Rattle.std.proofs.Common.{◌≡◌, ◌≤◌, ◌⊎◌, ℕ, zero, suc, List, [], ◌∷◌, ◌++◌, inl, inr, refl, sym, ap, subst, ◌∙◌, arith}
 use Rattle.std.specs.List.{Contains}
 use Rattle.std.proofs.lemmas.List.{append_assoc}
 use Rattle.std.proofs.lemmas.List.Elements.{Contains-append_right, Contains-append_cases}
 use Rattle.std.proofs.Math.Decide.{dec_le}
 use Rattle.std.proofs.Math.Nat.{lt_of_not-le}
-use Rattle.im_rules_limits.specs.Limits.{parameter_limit, IsFirstOver}
+use Rattle.im_rules.specs.Scopes.{Scopes, meaning}
+use Rattle.im_rules_limits.specs.Limits.{Head, words_meant, words_taken, parameter_limit, IsFirstOver}
 
 pub first-among : (counts : List ℕ) (n : ℕ) → IsFirstOver counts n → Contains counts n
 first-among counts n h =
@@ -39,7 +40,7 @@ first-behind ms ns n few h =
       over = h.over;
     }
 
-one-within : (n : ℕ) → n ≤ parameter_limit → (m : ℕ) → Contains (n ∷ []) m → m ≤ parameter_limit
+pub one-within : (n : ℕ) → n ≤ parameter_limit → (m : ℕ) → Contains (n ∷ []) m → m ≤ parameter_limit
 one-within n h m (zero, below, same) = subst (λ (z : ℕ). z ≤ parameter_limit) same h
 one-within n h m (suc i, below, same) = absurd (omega arith)
 
@@ -57,3 +58,7 @@ all-within (n ∷ ns) none m c =
       within = λ k e. (let below = e.1 in absurd (omega arith));
       over = lt_of_not-le h;
     })))
+
+pub taken-append : (g : Scopes) (hs ks : List Head) → words_taken g (hs ++ ks) ≡ words_taken g hs ++ words_taken g ks
+taken-append g [] ks = refl
+taken-append g (h ∷ hs) ks = ap (λ ns. words_meant (meaning g h.name) ∷ ns) (taken-append g hs ks)

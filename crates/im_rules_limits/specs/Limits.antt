@@ -1,51 +1,85 @@
--- What a unit is refused for beside the rules: a count over its limit. Counts are the parameters of one function, the bytes
--- of one type, and the bytes of all statics.
-use Rattle.std.specs.Prelude.{◌≡◌, ℕ, suc, ◌+◌, ◌<◌, ◌≤◌, List, [], ◌∷◌, ◌++◌, length, Option, Contains}
+-- What a unit is refused for beside the rules: a count over its limit. Counts are the words of one function's parameters, the
+-- bytes of one type, and the bytes of all statics.
+use Rattle.std.specs.Prelude.{◌≡◌, ℕ, ◌+◌, ◌/◌, ◌<◌, ◌≤◌, List, [], ◌∷◌, ◌++◌, length, Option, Some, Contains}
 use Rattle.im_rules.specs.im_word.Words.{Name}
+use Rattle.im_rules.specs.im_ctree.im_num.declared.kind.Kind.{Kind}
+use Rattle.im_rules.specs.im_ctree.im_num.Kinds.{kind_size}
 use Rattle.im_rules.specs.im_ctree.Tree as t
 use Rattle.im_rules.specs.im_ctype.declared.member.MemberPlace.{MemberPlace}
-use Rattle.im_rules.specs.im_ctype.Types.{CType, array, struct, Member, Structs, members_of}
+use Rattle.im_rules.specs.im_ctype.Types.{CType, CTypes, no_types, more_types, array, struct, Member, Structs, members_of}
 use Rattle.im_rules.specs.im_ctype.Members.{places}
 use Rattle.im_rules.specs.im_typed.Limits.{static_bytes}
-use Rattle.im_rules.specs.im_typed.Program.{Prog}
-use Rattle.im_rules.specs.TypeTests.{result_of}
-use Rattle.im_rules.specs.Outline.{Nearest, parameters, nearest}
+use Rattle.im_rules.specs.im_typed.Program.{Func, Prog}
+use Rattle.im_rules.specs.TypeTests.{parameters_of as types_given, result_of}
+use Rattle.im_rules.specs.Scopes.{Scopes, Entity, a_function, a_typedef, meaning}
+use Rattle.im_rules.specs.Outline.{Nearest, parameters, name_of, nearest}
 use Rattle.im_rules.specs.Context.{Context, behind, behind_strings, in_new_scope}
-use Rattle.im_rules.specs.Terms.{Term, size_in, constant_in}
+use Rattle.im_rules.specs.Terms.{Term, kind_in, size_in, constant_in}
 use Rattle.im_rules.specs.Demands.{Meets}
 use Rattle.im_rules.specs.Declared.{Qualified, Declared, array_of, length_asks, parameters_of}
 use Rattle.im_rules.specs.Typed.{Typed, Declares, Suffixed, AreParameters}
 use Rattle.im_rules.specs.Breaks.{Node, an_expression, some_suffixes, Part}
 use Rattle.im_rules.specs.Initialisers.{shape, one, elements, members, completed, strings_given}
 use Rattle.im_rules.specs.Statements.{Site, with_local}
-use Rattle.im_rules.specs.BodyBreaks.{Given, an_initialiser, some_elements, some_members, BodyNode, some_locals, some_items, InnerPart, StepPart, BodyPart}
+use Rattle.im_rules.specs.BodyBreaks.{declarator_token, Given, an_initialiser, some_elements, some_members, BodyNode, some_locals, some_items, InnerPart, StepPart, BodyPart}
 use Rattle.im_rules.specs.FileScope.{FilePlace, file_start, of_the_file, with_list_begun, with_struct, own_parameters}
-use Rattle.im_rules.specs.TypedUnit.{Specify, AreMembers, past_declarator, body_site, past_head, TypedUnit}
+use Rattle.im_rules.specs.TypedUnit.{Specify, AreMembers, FirstValues, past_declarator, body_site, past_head, AreExternals, TypedUnit}
 use Rattle.im_rules.specs.UnitBreaks.{FileNode, some_externals, an_external, some_declared, some_named, FilePart, FileInner}
 
--- parameters, of each function that a declarator at file scope declares
+-- parameters, of each function that a declarator at file scope declares: what they weigh is the words in which they are passed.
+-- Of what types they are is told by the function's name where the unit ends, since a name keeps its type (rule 3)
 
-abbrev pub count_parameters : t.Parameters → ℕ
-count_parameters t.no_parameters = 0
-count_parameters (t.more_parameters s d ps) = suc (count_parameters ps)
+-- the words of 4 bytes that hold a value of a kind
+abbrev pub words_of : Kind → ℕ
+words_of k = (kind_size k + 3) / 4
 
-abbrev pub counted_of : Nearest → List ℕ
-counted_of (parameters ps) = count_parameters ps ∷ []
-counted_of n = []
+abbrev pub words_in : CTypes → ℕ
+words_in no_types = 0
+words_in (more_types p ps) = words_of (kind_in p) + words_in ps
 
-abbrev pub counts_declared : t.InitDeclarators → List ℕ
-counts_declared t.no_init_declarators = []
-counts_declared (t.more_init_declarators d i ds) = counted_of (nearest d) ++ counts_declared ds
+-- of a function, and of a function type that a typedef name stands for
+abbrev pub words_meant : Option Entity → ℕ
+words_meant (Some (a_function k c a)) = words_in (types_given a)
+words_meant (Some (a_typedef c a)) = words_in (types_given a)
+words_meant e = 0
 
-abbrev pub counts_external : t.External → List ℕ
-counts_external (t.external_declaration (t.declaration s ds)) = counts_declared ds
-counts_external (t.function_definition s d b) = counted_of (nearest d)
+-- a function where it is declared: the first token of its declarator, and its name
+pub record Head : Type 0 where
+  pub token : ℕ
+  pub name : Name
 
-abbrev pub parameter_counts : t.Tree → List ℕ
-parameter_counts t.no_externals = []
-parameter_counts (t.more_externals x xs) = counts_external x ++ parameter_counts xs
+abbrev pub head_in : t.Declarator → Head
+head_in d = record { token = declarator_token d; name = name_of d }
 
--- the most parameters of a function
+-- where parameters stand next to the name
+abbrev pub head_by : Nearest → t.Declarator → List Head
+head_by (parameters ps) d = head_in d ∷ []
+head_by n d = []
+
+abbrev pub heads_of : t.Declarator → List Head
+heads_of d = head_by (nearest d) d
+
+abbrev pub heads_declared : t.InitDeclarators → List Head
+heads_declared t.no_init_declarators = []
+heads_declared (t.more_init_declarators d i ds) = heads_of d ++ heads_declared ds
+
+abbrev pub heads_external : t.External → List Head
+heads_external (t.external_declaration (t.declaration s ds)) = heads_declared ds
+heads_external (t.function_definition s d b) = heads_of d
+
+-- in the order of their declarators
+abbrev pub function_heads : t.Tree → List Head
+function_heads t.no_externals = []
+function_heads (t.more_externals x xs) = heads_external x ++ function_heads xs
+
+abbrev pub words_taken : Scopes → List Head → List ℕ
+words_taken g [] = []
+words_taken g (h ∷ hs) = words_meant (meaning g h.name) ∷ words_taken g hs
+
+abbrev pub parameter_counts : Scopes → t.Tree → List ℕ
+parameter_counts g u = words_taken g (function_heads u)
+
+-- the most words of a function's parameters
 abbrev pub parameter_limit : ℕ
 parameter_limit = 8
 
@@ -177,7 +211,10 @@ pub data Limit : Type 0 where
 
 -- a count of the unit is over its limit
 pub data Exceeds (u : t.Tree) : Limit → ℕ → Type 0 where
-  too_many_parameters : {n : ℕ} → IsFirstOver (parameter_counts u) n → Exceeds u of_parameters n
+  too_many_parameters : {e : FilePlace} {gs : List FirstValues} {ks : List Func} {n : ℕ}
+      → AreExternals (file_start u) u gs ks e
+      → IsFirstOver (parameter_counts e.context.scopes u) n
+      → Exceeds u of_parameters n
   too_large : {n : ℕ} → FileSized (file_start u) (some_externals u) n → size_limit < n → Exceeds u of_size n
   too_many_statics : {g : Prog} → TypedUnit u g → 1048576 < static_bytes g.statics → Exceeds u of_statics (static_bytes g.statics)
 

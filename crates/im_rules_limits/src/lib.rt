@@ -1,2 +1,2 @@
-//! From a unit to the counts that may exceed a limit: parameters, the bytes of a type, the bytes of all statics. Definitions alone.
+//! From a unit to the counts that may exceed a limit: the words of parameters, the bytes of a type, the bytes of all statics. Definitions alone.
 #![tactic(auto)]

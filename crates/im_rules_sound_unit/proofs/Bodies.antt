@@ -109,7 +109,7 @@ function-entity unit xs x c a r e = by-typedef (is_typedef xs) r
     by-typedef true r = absurd (cc)
     by-typedef false r = ap (λ b. if b then a_function (callee_named unit x) c a else an_object c a (static_object (place_in x unit.statics))) e
 
-headed : {last : FilePlace} {q : Qualified} {d : t.Declarator} {y : Declared} {ps : List Declared} (g : FilePlace) (xs : t.SpecifierList) (us : Stmts) (m : Added) → Declares g.context q d y → Meets (body_asks d y) → Meets (file_asks g xs y y.type true) → AreParameters (in_new_scope g.context) 0 (own_parameters (nearest d)) ps
+pub headed : {last : FilePlace} {q : Qualified} {d : t.Declarator} {y : Declared} {ps : List Declared} (g : FilePlace) (xs : t.SpecifierList) (us : Stmts) (m : Added) → Declares g.context q d y → Meets (body_asks d y) → Meets (file_asks g xs y y.type true) → AreParameters (in_new_scope g.context) 0 (own_parameters (nearest d)) ps
     → IsBounded g.context.known y.type → Grows (past_head xs d y g) last → IsHeaded last (function_made (past_head xs d y g) y (parameters_of (own_parameters (nearest d)) ps) us m)
 headed {last = last} {d = d} {y = y} {ps = ps} g xs us m p k a r b grown =
     let ds = parameters_of (own_parameters (nearest d)) ps in

@@ -8,26 +8,29 @@ use Rattle.im_typed.specs.im_serve.declared.service.Service.TheVariants.{Getchar
 use Rattle.im_word.specs.Words.{Name}
 use Rattle.im_ctree.specs.Tree as t
 use Rattle.im_store.proofs.Same.{both-true}
-use Rattle.im_ctype.specs.Types.{CType, void, integer, pointer, array, unsized, struct, function, Structs, is_function, is_array, is_scalar, kind_of}
+use Rattle.im_num.specs.declared.kind.Kind.{Kind}
+use Rattle.im_ctype.specs.Types.{CType, CTypes, no_types, more_types, void, integer, pointer, array, unsized, struct, function, Structs, is_function, is_array, is_scalar, kind_of}
 use Rattle.im_ctype.specs.Layout.{Layout, layout}
 use Rattle.im_ctype.proofs.CellLists.{layout-more}
 use Rattle.im_typed.specs.Program.{LocalObject, Stmts, no_stmts, Block, Piece, Func, Prog}
 use Rattle.im_typed.specs.Typing.{Each, parameters as typed_parameters, result_shape, IsObject, IsOneCell, IsTypedFunc, AreFirstValues}
 use Rattle.im_rules.specs.TypeTests.{same_name, is_complete_in, result_of, parameters_of as types_given}
-use Rattle.im_rules.specs.Rules.{is_typedef, named_in, rule_2, rule_5, rule_9_result, rule_9_void, rule_11}
+use Rattle.im_rules.specs.Rules.{is_typedef, named_in, rule_2, rule_5, rule_9_result, rule_11}
 use Rattle.im_rules.specs.Scopes.{Entity, an_object, a_function, an_enumerator, a_typedef, static_object, local_object, a_body, no_body, a_service, Scopes, nothing, opened, named, tagged, meaning}
-use Rattle.im_rules.specs.Outline.{Outline, is_in, place_in, Nearest, parameters, nearest, is_initialised}
+use Rattle.im_rules.specs.Outline.{Outline, is_in, place_in, name_of, Nearest, parameters, nearest, is_initialised}
 use Rattle.im_rules.specs.Context.{Context, in_new_scope}
-use Rattle.im_rules.specs.Declared.{Qualified, Declared, behind_specifiers, with_parameter, with_parameters, types_of, parameters_of, is_only_void}
+use Rattle.im_rules.specs.Terms.{kind_in}
+use Rattle.im_rules.specs.Declared.{Qualified, Declared, behind_specifiers, with_parameter, with_parameters, types_of, parameters_of}
 use Rattle.im_rules.specs.Initialisers.{Item, completed, strings_given, piece_of, pieces_of}
 use Rattle.im_rules.specs.StaticValues.{static_value, is_source_reached, cell_values}
 use Rattle.im_rules.specs.Demands.{Meets}
-use Rattle.im_rules.specs.Typed.{Declares, AreParameters, no_parameter, a_parameter}
+use Rattle.im_rules.specs.Typed.{Declares, AreParameters}
 use Rattle.im_rules.specs.Statements.{Added, TypedItems, name_of as name_in, object_of}
 use Rattle.im_rules.specs.FileScope.{FilePlace, past_strings, file_entity, file_asks, is_object_entity, callee_named, getchar_name, putchar_name, body_asks, has_own_parameters, own_parameters, static_size, of_the_file}
 use Rattle.im_rules.specs.TypedUnit.{Specify, FirstValues, AreConstants, MayGive, gives_nothing, gives_values, past_declarator, past_head, given_strings, AreDeclared, none_declared, one_declared, parameter_objects, body_site, function_made, string_statics, static_named, program, TypedExternal, of_declaration, of_function, AreExternals, no_external, an_external}
 use Rattle.im_rules.specs.UnitBreaks.{some_declared, an_external as external_node, some_externals, first_external, other_externals, declaration_specifiers, declared_part, function_specifiers, other_declared}
-use Rattle.im_rules_limits.specs.Limits.{count_parameters, counted_of, counts_external, parameter_counts, size_in_file_part, size_in_static_initialiser, size_in_body, IsFileWithin}
+use Rattle.im_rules_limits.proofs.First.{taken-append}
+use Rattle.im_rules_limits.specs.Limits.{words_of, words_in, words_meant, head_in, head_by, heads_of, heads_external, function_heads, words_taken, parameter_counts, size_in_file_part, size_in_static_initialiser, size_in_body, IsFileWithin}
 use Rattle.im_rules_sound.specs.Sound.{gives, TakeTypes, IsSoundCallee}
 use Rattle.im_rules_sound_expressions.specs.Bounded.{IsBounded, AreScalars, AreBoundedTypes, EachEntity, IsSoundEntity, IsSoundContext, HasStrings}
 use Rattle.im_rules_sound_expressions.proofs.Types.{each-at, each-kept, complete-is-object, kind-small}
@@ -41,10 +44,11 @@ use Rattle.im_rules_sound_statements.proofs.Sites.{stand-right, objects-append}
 use Rattle.im_rules_sound_places.specs.Units.{AreNamed, IsWrittenExternal, IsWrittenUnit}
 use Rattle.im_rules_sound_places.specs.Places.{IsFileEntity, Means, IsFine, Grows}
 use Rattle.im_rules_sound_places.proofs.Places.{grows-trans, self-named}
+use Rattle.im_rules_sound_places.proofs.Heads.{declared-name}
 use Rattle.im_rules_sound_places.proofs.Specifiers.{specify-step}
 use Rattle.im_rules_sound_places.proofs.Files.{declarator-step, declared-step, head-step, external-step, externals-step}
 use Rattle.im_rules_sound_unit.proofs.Values.{static-fits, values-good, IsGivenTo, join-each}
-use Rattle.im_rules_sound_unit.proofs.Bodies.{IsHeaded, head-known, take-front, count-objects, names_made, made-found, no-function, own-found}
+use Rattle.im_rules_sound_unit.proofs.Bodies.{IsHeaded, headed as head-means, head-known, take-front, count-objects, names_made, made-found, no-function, own-found}
 
 -- parameters, as objects
 
@@ -65,19 +69,22 @@ parameters-are-cells : (known : Structs) (ds : List Declared) → AreScalars (ty
 parameters-are-cells known [] h = tt
 parameters-are-cells known (d ∷ ds) h = ((parameter-object known (name_in d.name) d.type h.0).1, parameters-are-cells known ds h.1)
 
-count-parameters : {c : Context} {n : ℕ} {ps : t.Parameters} {ds : List Declared} → AreParameters c n ps ds → length ds ≡ count_parameters ps
-count-parameters no_parameter = refl
-count-parameters (a_parameter k p a r) = ap suc (count-parameters r)
+-- each parameter takes a word
 
-few-parameters : (ps : t.Parameters) (ds : List Declared) → length (parameters_of ps ds) ≤ length ds
-few-parameters ps ds = by-test (rule_9_void ps && is_only_void ds)
-  where
-    by-test : (b : Bool) → length (if b then [] else ds) ≤ length ds
-    by-test true = omega arith
-    by-test false = omega arith
+words-positive : (k : Kind) → 1 ≤ words_of k
+words-positive k = let bytes = (kind-small k).0 in omega (arith, bytes)
 
-own-count : (n : Nearest) → n ≡ parameters (own_parameters n) → counted_of n ≡ count_parameters (own_parameters n) ∷ []
-own-count n e = ap counted_of e
+takes-words : (ps : CTypes) (os : List LocalObject) → TakeTypes ps os → length os ≤ words_in ps
+takes-words no_types [] h = omega arith
+takes-words no_types (o ∷ os) h = absurd h
+takes-words (more_types p ps) [] h = absurd h
+takes-words (more_types p ps) (o ∷ os) h =
+    let one = words-positive (kind_in p) in
+    let rest = takes-words ps os h.2 in
+    omega (arith, one, rest)
+
+own-heads : (d : t.Declarator) (n : Nearest) → n ≡ parameters (own_parameters n) → head_by n d ≡ head_in d ∷ []
+own-heads d n e = ap (λ m. head_by m d) e
 
 scalar-complete : (known : Structs) (a : CType) → is_scalar a ≡ true → is_complete_in known a ≡ true
 scalar-complete known (integer i) e = refl
@@ -292,8 +299,8 @@ module _ (last : FilePlace) (gs : List FirstValues) (ks : List Func) (fine : IsF
   function-good : {f h : FilePlace} {at at' : ℕ} {xs : t.SpecifierList} {q : Qualified} {d : t.Declarator} {y : Declared} {ps : List Declared} {is : t.BlockItems} {us : Stmts} {m : Added} (s : Specify of_the_file f xs q h) (p : Declares h.context q d y) → Meets (body_asks d y) → (r : AreParameters (in_new_scope h.context) 0 (own_parameters (nearest d)) ps)
       → TypedItems (body_site (past_head xs d y h) (result_of y.type) (own_parameters (nearest d)) (parameters_of (own_parameters (nearest d)) ps)) is us m
       → AreWrittenItems is → IsBounded h.context.known y.type → IsFine (past_head xs d y h) → Grows (past_strings m.strings (past_head xs d y h)) last → IsFileWithin f (external_node (t.function_definition (t.specifiers at xs) d (t.block at' is)))
-      → ((n : ℕ) → Contains (counted_of (nearest d)) n → n ≤ 8) → IsGoodFunc (function_made (past_head xs d y h) y (parameters_of (own_parameters (nearest d)) ps) us m)
-  function-good {f = f} {h = h} {xs = xs} {d = d} {y = y} {ps = ps} {is = is} {us = us} {m = m} s p b r body w bounded fine_head k l few =
+      → Meets (file_asks h xs y y.type true) → ((n : ℕ) → Contains (words_taken last.context.scopes (heads_of d)) n → n ≤ 8) → IsGoodFunc (function_made (past_head xs d y h) y (parameters_of (own_parameters (nearest d)) ps) us m)
+  function-good {f = f} {h = h} {xs = xs} {d = d} {y = y} {ps = ps} {is = is} {us = us} {m = m} s p b r body w bounded fine_head k l a few =
       let own = own_parameters (nearest d) in
       let ds = parameters_of own ps in
       let place = past_head xs d y h in
@@ -317,10 +324,17 @@ module _ (last : FilePlace) (gs : List FirstValues) (ks : List Func) (fine : IsF
       } in
       let typed = items g fn (body_site place (result_of y.type) own ds) is us m body w site (λ n z. l n (size_in_body s p r z)) in
       let found = both-true (has_own_parameters (nearest d)) (rule_11 y.type own) b.0 in
-      let counted : Contains (counted_of (nearest d)) (count_parameters own) = subst (λ z. Contains z (count_parameters own)) (sym (own-count (nearest d) (own-found (nearest d) found.0))) (Contains-push [] (count_parameters own)) in
-      let limit = few (count_parameters own) counted in
-      let fewer = few-parameters own ps in
-      let same = count-parameters r in
+      let headed_so = head-means h xs us m p b a r bounded grown in
+      let x = name_in y.name in
+      let words = words_in (types_given headed_so.type) in
+      let named_so : meaning last.context.scopes (name_of d) ≡ Some (a_function (callee_named last.context.unit x) headed_so.constant headed_so.type) =
+      ap (meaning last.context.scopes) (sym (declared-name p)) ∙ headed_so.means in
+      let heads = own-heads d (nearest d) (own-found (nearest d) found.0) in
+      let taken : words_taken last.context.scopes (heads_of d) ≡ words ∷ [] = ap (words_taken last.context.scopes) heads ∙ ap (λ e. words_meant e ∷ []) named_so in
+      let limit = few words (subst (λ z. Contains z words) (sym taken) (Contains-push [] words)) in
+      let fewer : length (take (length ds) fn.objects) ≤ words = takes-words (types_given headed_so.type) (take (length ds) fn.objects) headed_so.takes in
+      let same : length (take (length ds) fn.objects) ≡ length ds =
+      ap length (ap (λ n. take n fn.objects) (sym count) ∙ take-front (parameter_objects known ds) m.objects) ∙ count in
       record {
         typed = (
           omega (arith, count, all),
@@ -331,20 +345,23 @@ module _ (last : FilePlace) (gs : List FirstValues) (ks : List Func) (fine : IsF
         few = omega (arith, limit, fewer, same);
       }
 
-  external-good : {f e : FilePlace} {x : t.External} {vs : List FirstValues} {js : List Func} → TypedExternal f x vs js e → IsFine f → IsWrittenExternal x → IsFileWithin f (external_node x) → Grows e last → ((n : ℕ) → Contains (counts_external x) n → n ≤ 8) → Each (IsGivenTo g.statics last) vs × Each IsGoodFunc js
+  external-good : {f e : FilePlace} {x : t.External} {vs : List FirstValues} {js : List Func} → TypedExternal f x vs js e → IsFine f → IsWrittenExternal x → IsFileWithin f (external_node x) → Grows e last → ((n : ℕ) → Contains (words_taken last.context.scopes (heads_external x)) n → n ≤ 8) → Each (IsGivenTo g.statics last) vs × Each IsGoodFunc js
   external-good (of_declaration s d) h w l k few =
       let one = specify-step s h w.0 (λ n z. l n (size_in_file_part declaration_specifiers z)) in
       (declared-given d one.step.fine one.bounded w.1 (λ n z. l n (size_in_file_part (declared_part s) z)) k, tt)
   external-good (of_function s p b a r body) h w l k few =
       let one = specify-step s h w.0 (λ n z. l n (size_in_file_part function_specifiers z)) in
       let head = head-step s p a one.step.fine one.bounded w.2 l in
-      (tt, (function-good s p b r body w.3 head.own head.behind.fine k l few, tt))
+      (tt, (function-good s p b r body w.3 head.own head.behind.fine k l a few, tt))
 
-  pub externals-good : {f : FilePlace} {u : t.Tree} {vs : List FirstValues} {js : List Func} → AreExternals f u vs js last → IsFine f → IsWrittenUnit u → IsFileWithin f (some_externals u) → ((n : ℕ) → Contains (parameter_counts u) n → n ≤ 8) → Each (IsGivenTo g.statics last) vs × Each IsGoodFunc js
+  pub externals-good : {f : FilePlace} {u : t.Tree} {vs : List FirstValues} {js : List Func} → AreExternals f u vs js last → IsFine f → IsWrittenUnit u → IsFileWithin f (some_externals u) → ((n : ℕ) → Contains (parameter_counts last.context.scopes u) n → n ≤ 8) → Each (IsGivenTo g.statics last) vs × Each IsGoodFunc js
   externals-good no_external h w l few = (tt, tt)
   externals-good (an_external {x = x} {xs = xs} {gs = us} {hs = hs} {ks = js} {ls = ls} d r) h w l few =
+      let scopes = last.context.scopes in
+      let both : words_taken scopes (heads_external x ++ function_heads xs) ≡ words_taken scopes (heads_external x) ++ parameter_counts scopes xs = taken-append scopes (heads_external x) (function_heads xs) in
+      let all : (n : ℕ) → Contains (words_taken scopes (heads_external x) ++ parameter_counts scopes xs) n → n ≤ 8 = λ n c. few n (subst (λ z. Contains z n) (sym both) c) in
       let one = external-step d h w.0 (λ n z. l n (size_in_file_part first_external z)) in
       let rest = externals-step r one.fine w.1 (λ n z. l n (size_in_file_part (other_externals d) z)) in
-      let first = external-good d h w.0 (λ n z. l n (size_in_file_part first_external z)) rest.grows (λ n c. few n (Contains-append_left (counts_external x) (parameter_counts xs) n c)) in
-      let others = externals-good r one.fine w.1 (λ n z. l n (size_in_file_part (other_externals d) z)) (λ n c. few n (Contains-append_right (counts_external x) (parameter_counts xs) n c)) in
+      let first = external-good d h w.0 (λ n z. l n (size_in_file_part first_external z)) rest.grows (λ n c. all n (Contains-append_left (words_taken scopes (heads_external x)) (parameter_counts scopes xs) n c)) in
+      let others = externals-good r one.fine w.1 (λ n z. l n (size_in_file_part (other_externals d) z)) (λ n c. all n (Contains-append_right (words_taken scopes (heads_external x)) (parameter_counts scopes xs) n c)) in
       (join-each (IsGivenTo g.statics last) us hs first.0 others.0, join-each IsGoodFunc js ls first.1 others.1)

@@ -100,7 +100,8 @@ pub units : (u : t.Tree) (g : Prog) → TypedUnit u g → IsWrittenUnit u → Is
 units u _ (of_unit {e = e} {gs = gs} {ks = ks} d m) w l =
     let start = start-fine u in
     let within : IsFileWithin (file_start u) (some_externals u) = λ k z. no-more k size_limit (λ lt. l of_size k (too_large z lt)) in
-    let few : (n : ℕ) → Contains (parameter_counts u) n → n ≤ 8 = all-within (parameter_counts u) (λ n first. l of_parameters n (too_many_parameters first)) in
+    let few : (n : ℕ) → Contains (parameter_counts e.context.scopes u) n → n ≤ 8 =
+    all-within (parameter_counts e.context.scopes u) (λ n first. l of_parameters n (too_many_parameters d first)) in
     let small : static_bytes (program e gs ks).statics ≤ 1048576 = no-more (static_bytes (program e gs ks).statics) 1048576 (λ lt. l of_statics (static_bytes (program e gs ks).statics) (too_many_statics (of_unit d m) lt)) in
     let all = externals-step d start w within in
     let headed = externals-headed d start w within in

@@ -1,5 +1,7 @@
+use Rattle.std.proofs.Common.{ap, ◌∙◌}
 use Rattle.std.proofs.lemmas.Result.{err_from_is_err_and}
 use Rattle.im_ctree.specs.Shape.{tree_of}
+use Rattle.im_check_counts.specs.Heads.{heads_in}
 use Rattle.im_check.proofs.checker.check.Goals as goal
 
 pub returns-in_err-typed : goal.returns-in_err-typed
@@ -8,4 +10,4 @@ returns-in_err-typed c =
     rw (p.1, p.2) c.in_err-typed.ensures
 
 pub returns : goal.returns
-returns c = c.unit_program.ensures (tree_of c.args.tree) c.requires c.in_ok-typed.ensures c.too_many_parameters-over.ensures
+returns c = c.unit_program.ensures (tree_of c.args.tree) c.requires c.in_ok-typed.ensures (ap heads_in c.deref.ensures.value ∙ c.in_ok-heads.ensures)

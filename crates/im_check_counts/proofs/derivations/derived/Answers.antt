@@ -1,6 +1,6 @@
 use Rattle.std.proofs.Common.{◌+◌, ap, ◌∙◌}
 use Rattle.im_ctree.specs.Shape.{declarator_of}
-use Rattle.im_check_counts.proofs.Functions.{token_of}
+use Rattle.im_check_counts.proofs.Declarators.{token_of}
 use Rattle.im_check_counts.proofs.Derived.{from_parts}
 use Rattle.im_check_counts.proofs.derivations.derived.Goals as goal
 

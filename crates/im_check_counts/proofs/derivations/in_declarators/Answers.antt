@@ -3,7 +3,7 @@ use Rattle.std.proofs.lemmas.List.{drop_all}
 use Rattle.im_ctree.specs.Shape.{declarator_of, init_declarators_of}
 use Rattle.im_ctree.specs.declared.declaration.InitDeclarator.{InitDeclarator}
 use Rattle.im_check_counts.specs.Derivations.{derived_from, derived_in, known_of, IsWalked}
-use Rattle.im_check_counts.proofs.Over.{next}
+use Rattle.im_check_counts.proofs.Rest.{next}
 use Rattle.im_check_counts.proofs.Derived.{walked_none, walked_front, walked_next}
 use Rattle.im_check_counts.proofs.derivations.in_declarators.Goals as goal
 

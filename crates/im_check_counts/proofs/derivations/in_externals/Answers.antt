@@ -3,7 +3,7 @@ use Rattle.std.proofs.lemmas.List.{drop_all}
 use Rattle.im_ctree.specs.Shape.{external_of, externals_of}
 use Rattle.im_ctree.specs.declared.unit.External.{External}
 use Rattle.im_check_counts.specs.Derivations.{Known, derived_by, derived_of, known_of, known_behind, IsWalked}
-use Rattle.im_check_counts.proofs.Over.{next}
+use Rattle.im_check_counts.proofs.Rest.{next}
 use Rattle.im_check_counts.proofs.Derived.{walked_none, walked_front, walked_next}
 use Rattle.im_check_counts.proofs.derivations.in_externals.Goals as goal
 

@@ -1,7 +1,0 @@
-use Rattle.im_check_counts.proofs.crowded.crowded_external.Goals as goal
-
-pub returns-in-Declaration : goal.returns-in-Declaration
-returns-in-Declaration c = rw c.in-Declaration.is (rw c.deref.ensures.value at c.among_declarators.ensures)
-
-pub returns-in-Function : goal.returns-in-Function
-returns-in-Function c = rw c.in-Function.is c.crowded_declarator.ensures
