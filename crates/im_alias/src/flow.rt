@@ -1,7 +1,9 @@
 ghost use Rattle.std.specs.Prelude.{◌≡◌, ◌+◌, ◌<◌, ◌≤◌, ℕ, IfOk, length, slice_get};
 ghost use Rattle.im_alias.specs.Ascending.{IsWithin};
-ghost use Rattle.im_alias.specs.Scan.{CanPass, CanTake, IsReached, FlowedBlock, FlowedBlocks, FlowedUnit};
-ghost use Rattle.im_alias.specs.Sets.{Flowed, IsBlockOf, IsCode, IsPart, StaticsFit, row_sets, width};
+ghost use Rattle.im_alias.specs.Scan.{CanPass, CanTake, IsReached, FlowedBlock, FlowedBlocks};
+ghost use Rattle.im_alias.specs.Scan.{FlowedUnit};
+ghost use Rattle.im_alias.specs.Sets.{Flowed, IsBlockOf, IsCode, IsPart, StaticsFit, row_sets};
+ghost use Rattle.im_alias.specs.Sets.{width};
 ghost use Rattle.im_alias.specs.PointsAt.{ExitFits, LineFits, sets_at};
 ghost use Rattle.im_block.specs.Sections.{Has};
 ghost use Rattle.im_block.specs.Wellformed.{ExitWithin, PlaceWithin, accesses_of_blocks};

@@ -1,7 +1,9 @@
 ghost use Rattle.std.specs.Prelude.{◌≡◌, ◌<◌, ◌+◌, ◌^◌, All, length};
 ghost use Rattle.im_alloc_intervals.specs.Marks.{Adds, Flags};
-ghost use Rattle.im_alloc_intervals.specs.Lines.{IsTarget, IsBehind, IsSetAt, IsAcross, IsPassed, IsArgument};
-ghost use Rattle.im_alloc_intervals.specs.Lines.{target_of as target_of_line, result_of as result_of_line};
+ghost use Rattle.im_alloc_intervals.specs.Lines.{IsTarget, IsBehind, IsSetAt, IsAcross, IsPassed};
+ghost use Rattle.im_alloc_intervals.specs.Lines.{IsArgument};
+ghost use Rattle.im_alloc_intervals.specs.Lines.{target_of as target_of_line};
+ghost use Rattle.im_alloc_intervals.specs.Lines.{result_of as result_of_line};
 ghost use Rattle.im_block.specs.Wellformed.{LineWithin};
 
 use crate::marks::{Interval, flag_run, flag_word, touch};

@@ -1,6 +1,7 @@
 ghost use Rattle.std.specs.Prelude.{◌≡◌, ◌<◌, ◌≤◌, ◌+◌, ◌^◌, ◌↔◌, IsTrue, length};
 ghost use Rattle.im_block_live.specs.Words.{has};
-ghost use Rattle.im_alloc_intervals.specs.Marks.{Adds, Flags, IsAt, IsBitAt, IsBitOf, IsOtherBit, IsBetween};
+ghost use Rattle.im_alloc_intervals.specs.Marks.{Adds, Flags, IsAt, IsBitAt, IsBitOf, IsOtherBit};
+ghost use Rattle.im_alloc_intervals.specs.Marks.{IsBetween};
 ghost use Rattle.im_alloc_intervals.specs.Marks.{touched as touched_at};
 
 /// The stretch of positions from the first to the last at which a register lives, or was set by the

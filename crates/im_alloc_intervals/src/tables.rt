@@ -1,12 +1,16 @@
-ghost use Rattle.std.specs.Prelude.{◌≡◌, ◌<◌, ◌+◌, ◌*◌, ◌^◌, ℕ, false, All, IfOk, OnOk, length, suc};
+ghost use Rattle.std.specs.Prelude.{◌≡◌, ◌<◌, ◌+◌, ◌*◌, ◌^◌, ℕ, false, All, IfOk, OnOk, length};
+ghost use Rattle.std.specs.Prelude.{suc};
 ghost use Rattle.im_block.specs.Wellformed.{LineWithin, ExitThere};
 ghost use Rattle.im_alloc_intervals.specs.Lines.{IsSetAt, IsPassed};
 ghost use Rattle.im_block_live.specs.Words.{AreLinked};
 ghost use Rattle.im_alloc_intervals.specs.Homes.{IsAble};
 ghost use Rattle.im_alloc_intervals.specs.Marks.{Adds, Flags, interval_at, flag_at};
-ghost use Rattle.im_alloc_intervals.specs.Tables.{AreTables, ArePlaces, AreLinesWithin, HaveLength, HaveBlock};
-ghost use Rattle.im_alloc_intervals.specs.Tables.{IsLivingAt, IsLivingIn, IsLivingOf, IsSetIn, IsPassedIn};
-ghost use Rattle.im_alloc_intervals.specs.Tables.{IsCrossingAt, IsCrossingIn, IsCrossingOf, IsEnteringOf};
+ghost use Rattle.im_alloc_intervals.specs.Tables.{AreTables, ArePlaces, AreLinesWithin, HaveLength};
+ghost use Rattle.im_alloc_intervals.specs.Tables.{HaveBlock};
+ghost use Rattle.im_alloc_intervals.specs.Tables.{IsLivingAt, IsLivingIn, IsLivingOf, IsSetIn};
+ghost use Rattle.im_alloc_intervals.specs.Tables.{IsPassedIn};
+ghost use Rattle.im_alloc_intervals.specs.Tables.{IsCrossingAt, IsCrossingIn, IsCrossingOf};
+ghost use Rattle.im_alloc_intervals.specs.Tables.{IsEnteringOf};
 
 use crate::lines::{flag_across, flag_arguments, touch_targets};
 use crate::marks::{Interval, flag_word, touch_words};

@@ -1,5 +1,6 @@
 ghost use Rattle.std.specs.Prelude.{◌≡◌, ◌<◌, ◌≤◌, ◌^◌, ◌↔◌, IfOk, IsTrue, length};
-ghost use Rattle.im_alloc_intervals.specs.Scans.{IsFreeAt, FindsRegister, FindsSlot, TakesRegister, TakesSlot, Takes, MayTake};
+ghost use Rattle.im_alloc_intervals.specs.Scans.{IsFreeAt, FindsRegister, FindsSlot, TakesRegister};
+ghost use Rattle.im_alloc_intervals.specs.Scans.{TakesSlot, Takes, MayTake};
 ghost use Rattle.im_alloc_intervals.specs.Scans.{AreWaiting, last_of as last_of_interval};
 
 use crate::marks::Interval;

@@ -22,7 +22,7 @@ AllZipFrom next R n (x ∷ xs) (y ∷ ys) = R n x y × AllZipFrom next R (next x
 AllZipFrom next R n [] (y ∷ ys) = ⊥
 AllZipFrom next R n (x ∷ xs) [] = ⊥
 
--- the number of the element at place i
+-- the number of the element at place i; behind the end of the list, the number behind its last
 abbrev pub number_at : {X : Type 0} → (X → ℕ → ℕ) → ℕ → List X → ℕ → ℕ
 number_at next n [] i = n
 number_at next n (x ∷ xs) zero = n

@@ -2,7 +2,8 @@ ghost use Rattle.std.specs.Prelude.{◌≡◌, ◌<◌, ◌+◌, ℕ, IfOk, leng
 ghost use Rattle.std.specs.Bool.{OnTrue, OnFalse};
 ghost use Rattle.im_block.specs.Wellformed.{ExitThere};
 ghost use Rattle.im_alloc_relation.specs.Live.{lives};
-ghost use Rattle.im_block_live.specs.Words.{has, starts_have, Joins, AreStarts, AreRead, AreClosed, AreWords, AreLinked};
+ghost use Rattle.im_block_live.specs.Words.{has, starts_have, Joins, AreStarts, AreRead, AreClosed};
+ghost use Rattle.im_block_live.specs.Words.{AreWords, AreLinked};
 
 use crate::registers::{before, before_exit};
 use im_block::Block;

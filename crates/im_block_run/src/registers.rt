@@ -1,4 +1,5 @@
-ghost use Rattle.std.specs.Prelude.{◌≡◌, ◌==◌, ◌<◌, ◌+◌, ◌-◌, ◌&&◌, ℕ, get_or, length, nat_le, nat_lt, slice_get, IfOk, OnOk, if◌then◌else◌};
+ghost use Rattle.std.specs.Prelude.{◌≡◌, ◌==◌, ◌<◌, ◌+◌, ◌-◌, ◌&&◌, ℕ, get_or, length, nat_le};
+ghost use Rattle.std.specs.Prelude.{nat_lt, slice_get, IfOk, OnOk, if◌then◌else◌};
 ghost use Rattle.im_block.specs.Meaning as meaning;
 ghost use Rattle.im_block.specs.Meaning.{kept_by, with_register};
 ghost use Rattle.im_eval_store.specs.Shown.{shown};

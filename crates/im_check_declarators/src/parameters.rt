@@ -1,5 +1,6 @@
 //! Parameters (C11 6.7.6.3p7).
-ghost use Rattle.std.specs.Prelude.{◌≡◌, ℕ, Bool, false, is_some, List, Option, MatchResult, IfOk, OnOk, OnErr};
+ghost use Rattle.std.specs.Prelude.{◌≡◌, ℕ, Bool, false, is_some, List, Option, MatchResult, IfOk};
+ghost use Rattle.std.specs.Prelude.{OnOk, OnErr};
 ghost use Rattle.im_check_type_specifiers.specs.im_word.Words.{Name};
 ghost use Rattle.im_ctype.specs.Types.{CType};
 ghost use Rattle.im_rules.specs.Context.{Context};

@@ -7,11 +7,14 @@ ghost use Rattle.im_rules.specs.Declared as d;
 ghost use Rattle.im_rules.specs.Rules.{rule_6_length};
 ghost use Rattle.im_rules.specs.Terms.{size_in};
 ghost use Rattle.im_check_sizes.specs.im_rules_limits.Limits.{size_limit};
-ghost use Rattle.im_ctree_parts.specs.Lists.{maybe_from, parameters_from, suffixes_from, with_suffix};
+ghost use Rattle.im_ctree_parts.specs.Lists.{maybe_from, parameters_from, suffixes_from};
+ghost use Rattle.im_ctree_parts.specs.Lists.{with_suffix};
 ghost use Rattle.im_types.specs.Shape.{type_of};
 ghost use Rattle.im_check_type_specifiers.specs.Specified.{IsQualified, qualified_of};
 ghost use Rattle.im_check_declarators.specs.declared.given.Given.{Given};
-ghost use Rattle.im_check_declarators.specs.Suffixes.{AreGiven, AreSuffixed, SuffixesDone, IsElement, IsCount, IsArray, IsGivenLength, IsGivenOf, IsLength, IsParameters};
+ghost use Rattle.im_check_declarators.specs.Suffixes.{AreGiven, AreSuffixed, SuffixesDone};
+ghost use Rattle.im_check_declarators.specs.Suffixes.{IsElement, IsCount, IsArray, IsGivenLength};
+ghost use Rattle.im_check_declarators.specs.Suffixes.{IsGivenOf, IsLength, IsParameters};
 
 use crate::functions::function;
 use crate::given::Given;

@@ -15,7 +15,8 @@ ghost use Rattle.im_check_stop.specs.Answers.{IsRefusal};
 ghost use Rattle.im_ctree_parts.specs.Lists.{maybe_from, with_enumerator, enumerators_from};
 ghost use Rattle.im_check_file_place.specs.Files.{file_place_of};
 ghost use Rattle.im_check_file_specifiers.specs.Answers.{IsFileFault};
-ghost use Rattle.im_check_file_specifiers.specs.Enumerators.{IsNumbered, IsValueFault, GoesOnEnumerators};
+ghost use Rattle.im_check_file_specifiers.specs.Enumerators.{IsNumbered, IsValueFault};
+ghost use Rattle.im_check_file_specifiers.specs.Enumerators.{GoesOnEnumerators};
 
 use im_check_expression_parts::constant_of;
 use im_check_expressions::expression;

@@ -1,5 +1,6 @@
 //! Member lists (C11 6.7.2.1): what stands before their members and behind them.
-ghost use Rattle.std.specs.Prelude.{◌≡◌, ◌&&◌, ◌∷◌, [], Option, IfOk, MatchResult, OnOk, not, reverse};
+ghost use Rattle.std.specs.Prelude.{◌≡◌, ◌&&◌, ◌∷◌, [], Option, IfOk, MatchResult, OnOk, not};
+ghost use Rattle.std.specs.Prelude.{reverse};
 ghost use Rattle.im_check_expressions.specs.im_word.Words.{Name};
 ghost use Rattle.im_ctree.specs.Tree as t;
 ghost use Rattle.im_rules.specs.Context.{Context};

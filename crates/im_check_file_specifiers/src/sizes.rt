@@ -2,7 +2,8 @@
 ghost use Rattle.std.specs.Prelude.{MatchResult};
 ghost use Rattle.im_ctype.specs.Table.{structs_of};
 ghost use Rattle.im_check_place.specs.Fields.{fields_of};
-ghost use Rattle.im_check_file_specifiers.specs.Sizes.{MembersFit, IsMemberOver, StructFits, IsStructOver};
+ghost use Rattle.im_check_file_specifiers.specs.Sizes.{MembersFit, IsMemberOver, StructFits};
+ghost use Rattle.im_check_file_specifiers.specs.Sizes.{IsStructOver};
 
 use im_check_place::Field;
 use im_check_sizes::{all_fit, fits};

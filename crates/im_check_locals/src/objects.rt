@@ -10,7 +10,8 @@ ghost use Rattle.im_check_type_specifiers.specs.Specified.{qualified_of};
 ghost use Rattle.im_check_declarators.specs.Shape.{declared_of};
 ghost use Rattle.im_rules.specs.Statements.{name_of};
 ghost use Rattle.std.specs.Option.{option_map};
-ghost use Rattle.im_check_locals.specs.Objects.{object_asks, IsObject, IsKept, LocalDone, IsLocalFault};
+ghost use Rattle.im_check_locals.specs.Objects.{object_asks, IsObject, IsKept, LocalDone};
+ghost use Rattle.im_check_locals.specs.Objects.{IsLocalFault};
 
 use crate::asked::{has_lengths, name_asked};
 use crate::read::{begun, declared};

@@ -1,5 +1,6 @@
 //! Calls (C11 6.5.2.2), of which the arguments are typed.
-ghost use Rattle.std.specs.Prelude.{◌≡◌, Bool, false, true, length, Some, IfOk, IsTrue, MatchOption};
+ghost use Rattle.std.specs.Prelude.{◌≡◌, Bool, false, true, length, Some, IfOk, IsTrue};
+ghost use Rattle.std.specs.Prelude.{MatchOption};
 ghost use Rattle.im_ctype.specs.Table.{Table, structs_of};
 ghost use Rattle.im_ctype.specs.Types as t;
 ghost use Rattle.im_typed.specs.Program as p;

@@ -1,10 +1,12 @@
 //! The declarators of a unit, in order.
 ghost use Rattle.std.specs.Prelude.{◌≡◌, ◌&&◌, IfOk};
 ghost use Rattle.im_ctree.specs.Tree as t;
-ghost use Rattle.im_ctree.specs.Shape.{declarator_of, init_declarators_of, external_of, tree_of as unit_of};
+ghost use Rattle.im_ctree.specs.Shape.{declarator_of, init_declarators_of, external_of};
+ghost use Rattle.im_ctree.specs.Shape.{tree_of as unit_of};
 ghost use Rattle.im_check_name_map.specs.im_rules.Outline as o;
 ghost use Rattle.im_ctree_parts.specs.Lists.{list_from};
-ghost use Rattle.im_check_outline.specs.Walked.{sort_of, outlined_of, walk_of, behind_one, with_outlined, with_function as with_function_name};
+ghost use Rattle.im_check_outline.specs.Walked.{sort_of, outlined_of, walk_of, behind_one};
+ghost use Rattle.im_check_outline.specs.Walked.{with_outlined, with_function as with_function_name};
 
 use crate::declarator::{gives_function, name_of, nearest};
 use crate::item::{Item, Sort, Walk};

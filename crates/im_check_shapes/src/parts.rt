@@ -5,7 +5,8 @@ ghost use Rattle.im_ctree.specs.Shape.{initializer_of};
 ghost use Rattle.im_ctree.specs.Tree as t;
 ghost use Rattle.im_check_stop.specs.im_rules.BodyBreaks.{initialiser_token};
 ghost use Rattle.im_ctree_parts.specs.Lists.{expression_in, initializers_from};
-ghost use Rattle.im_check_shapes.specs.Parts.{expression_alone, only_expression, string_alone, text_if, text_of};
+ghost use Rattle.im_check_shapes.specs.Parts.{expression_alone, only_expression, string_alone};
+ghost use Rattle.im_check_shapes.specs.Parts.{text_if, text_of};
 
 use im_ctree::{Expression, ExpressionKind, Initializer};
 

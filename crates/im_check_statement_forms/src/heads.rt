@@ -3,7 +3,8 @@ ghost use Rattle.std.specs.Prelude.{◌≡◌, [], MatchResult};
 ghost use Rattle.im_ctree.specs.Shape.{for_init_of, optional_expression_of};
 ghost use Rattle.im_ctree.specs.Tree as t;
 ghost use Rattle.im_check_locals.specs.im_rules.Statements as st;
-ghost use Rattle.im_check_statement_forms.specs.Done.{BeginDone, IsBeginFault, TestDone, StepDone, IsMaybeFault, HeadDone, IsHeadFault};
+ghost use Rattle.im_check_statement_forms.specs.Done.{BeginDone, IsBeginFault, TestDone, StepDone};
+ghost use Rattle.im_check_statement_forms.specs.Done.{IsMaybeFault, HeadDone, IsHeadFault};
 
 use crate::asked::{evaluated, tested};
 use crate::made::block_made;

@@ -8,7 +8,8 @@ ghost use Rattle.im_check_locals.specs.im_ctree_parts.Lists.{expression_in};
 ghost use Rattle.im_check_constancy.specs.Told.{number_in, constant_in};
 ghost use Rattle.im_check_operands.specs.Shape.{term_in};
 ghost use Rattle.im_check_statement_forms.specs.Asked.{IsAskedFault};
-ghost use Rattle.im_check_statement_forms.specs.Labelling.{labels_of, Tells, CaseAdded, DefaultAdded, IsSelected, CaseDone};
+ghost use Rattle.im_check_statement_forms.specs.Labelling.{labels_of, Tells, CaseAdded};
+ghost use Rattle.im_check_statement_forms.specs.Labelling.{DefaultAdded, IsSelected, CaseDone};
 
 use crate::asked::term;
 use im_check_constancy::Constancy;

@@ -7,8 +7,11 @@ ghost use Rattle.im_check_stop.specs.Answers.{IsNoRule};
 ghost use Rattle.im_check_sites.specs.Sites.{IsBodyFault};
 ghost use Rattle.im_check_statement_forms.specs.Done.{IsLeaf};
 ghost use Rattle.im_check_statement_forms.specs.Labelling.{no_labels as none, Tells};
-ghost use Rattle.im_check_statements.specs.Checked.{looped_in, switched_in, ItemsDone, ItemDone, IsItemFault, CasesDone, CaseItemDone, IsCaseItemFault, LabelledDone, IsLabelledFault};
-ghost use Rattle.im_check_statements.specs.Forms.{IsBlock, IsIf, IsWhile, IsDoWhile, IsFor, IsSwitch};
+ghost use Rattle.im_check_statements.specs.Checked.{looped_in, switched_in, ItemsDone, ItemDone};
+ghost use Rattle.im_check_statements.specs.Checked.{IsItemFault, CasesDone, CaseItemDone};
+ghost use Rattle.im_check_statements.specs.Checked.{IsCaseItemFault, LabelledDone, IsLabelledFault};
+ghost use Rattle.im_check_statements.specs.Forms.{IsBlock, IsIf, IsWhile, IsDoWhile, IsFor};
+ghost use Rattle.im_check_statements.specs.Forms.{IsSwitch};
 
 use im_check_sites::{Body, Position};
 use im_check_statement_forms::{

@@ -3,7 +3,8 @@ ghost use Rattle.std.specs.Prelude.{◌≡◌, List};
 ghost use Rattle.std.specs.Option.{option_map};
 ghost use Rattle.im_ctree.specs.declared.specifier.SpecifierWord.{SpecifierWord};
 ghost use Rattle.im_check_scopes.specs.im_rules.Rules as u;
-ghost use Rattle.im_check_type_specifiers.specs.Lines.{IsCounted, word_type_of, same_counts, typed_by};
+ghost use Rattle.im_check_type_specifiers.specs.Lines.{IsCounted, word_type_of, same_counts};
+ghost use Rattle.im_check_type_specifiers.specs.Lines.{typed_by};
 
 use im_ctype::Integer;
 

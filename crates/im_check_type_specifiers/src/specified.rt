@@ -9,7 +9,8 @@ ghost use Rattle.im_check_scopes.specs.im_rules.Rules as u;
 ghost use Rattle.im_ctree_parts.specs.Lists.{list_from, specifier_in};
 ghost use Rattle.im_types.specs.Shape.{type_of};
 ghost use Rattle.im_check_type_specifiers.specs.Lines.{word_type_of};
-ghost use Rattle.im_check_type_specifiers.specs.Specified.{at_place, IsQualified, IsFirst, IsNamed, qualified_of, base_of, file_asks};
+ghost use Rattle.im_check_type_specifiers.specs.Specified.{at_place, IsQualified, IsFirst, IsNamed};
+ghost use Rattle.im_check_type_specifiers.specs.Specified.{qualified_of, base_of, file_asks};
 
 use crate::line::{WordType, line_of};
 use crate::qualified::Qualified;

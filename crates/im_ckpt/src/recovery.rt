@@ -1,4 +1,5 @@
-ghost use Rattle.std.specs.Prelude.{◌≡◌, ◌<◌, ◌≤◌, ◌++◌, ◌∷◌, [], OnOk, IfOk, IsTrue, map, slice_set, replicate};
+ghost use Rattle.std.specs.Prelude.{◌≡◌, ◌<◌, ◌≤◌, ◌++◌, ◌∷◌, [], OnOk, IfOk, IsTrue, map};
+ghost use Rattle.std.specs.Prelude.{slice_set, replicate};
 ghost use Rattle.im_rv.specs.Lines.{code_lines, plain_line};
 ghost use Rattle.im_ckpt.specs.Recovery.{half_lines, load_line, load_lines, recovery};
 ghost use Rattle.im_ckpt.specs.Registers.{are_registers};

@@ -3,7 +3,8 @@ ghost use Rattle.im_image.specs.Text.{image_text};
 ghost use Rattle.im_cmd_lines.specs.Refusals.{refused_of};
 ghost use Rattle.im_cmd.specs.Files.{ReadsFile, StoresText};
 ghost use Rattle.im_cmd_words.specs.Named.{IsInBounds};
-ghost use Rattle.im_cmd.specs.Builds.{Builds, RefusesBuild, Compiles, RefusesReading, RefusesSource, IsBuilt, source_limit};
+ghost use Rattle.im_cmd.specs.Builds.{Builds, RefusesBuild, Compiles, RefusesReading};
+ghost use Rattle.im_cmd.specs.Builds.{RefusesSource, IsBuilt, source_limit};
 ghost use Rattle.im_cmd.specs.Stages.{IsBuiltFrom, CompilesFrom, RefusesText, RefusesStore};
 
 use im_cmd_lines::Refusal;

@@ -1,6 +1,7 @@
 ghost use Rattle.std.specs.Prelude.{option_map};
 ghost use Rattle.im_io.specs.Shelf.{ShelfState};
-ghost use Rattle.im_cmd_words.specs.Named.{IsInBounds, builds, dumps, evaluates, evaluation_meaning};
+ghost use Rattle.im_cmd_words.specs.Named.{IsInBounds, builds, dumps, evaluates};
+ghost use Rattle.im_cmd_words.specs.Named.{evaluation_meaning};
 ghost use Rattle.im_cmd_words.specs.Named.{executes, generates, options_meaning, reports, runs};
 ghost use Rattle.im_cmd_words.specs.Named.{upgrades};
 ghost use Rattle.im_cmd.specs.Answers.{CarriesOut};

@@ -3,7 +3,8 @@ ghost use Rattle.im_io.specs.Whole.{Sends};
 ghost use Rattle.im_keeps.specs.Keeps.{output_in};
 ghost use Rattle.im_eval_machine.specs.Endings.{told};
 ghost use Rattle.im_cmd.specs.Outcome.{Tells};
-ghost use Rattle.im_cmd.specs.Evaluations.{evaluated_by, evaluation_outcome, evaluation_report, evaluation_status, shown_at_end};
+ghost use Rattle.im_cmd.specs.Evaluations.{evaluated_by, evaluation_outcome, evaluation_report};
+ghost use Rattle.im_cmd.specs.Evaluations.{evaluation_status, shown_at_end};
 
 use crate::evaluating::Evaluation;
 use crate::status::{DONE, OUT_OF_FUEL, STACK_EXHAUSTED, UNDEFINED, UNWRITABLE};

@@ -2,7 +2,9 @@ ghost use Rattle.std.specs.Prelude.{◌≡◌, length, option_map, IfSome};
 ghost use Rattle.im_io.specs.Whole.{Sends};
 ghost use Rattle.im_cmd_lines.specs.Refusals.{refusal_line, refused_of};
 ghost use Rattle.im_device.specs.Shows.{output_of};
-ghost use Rattle.im_cmd.specs.Outcome.{Got, Tells, built_lines, done, ending, ending_status, refusal_status, report_with, reported_lines, run_report, shown_lines};
+ghost use Rattle.im_cmd.specs.Outcome.{Got, Tells, built_lines, done, ending, ending_status};
+ghost use Rattle.im_cmd.specs.Outcome.{refusal_status, report_with, reported_lines, run_report};
+ghost use Rattle.im_cmd.specs.Outcome.{shown_lines};
 ghost use Rattle.im_cmd.specs.Stages.{Finishes, ended_of, variables_of};
 
 use crate::running::Run;

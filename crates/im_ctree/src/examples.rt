@@ -7,7 +7,12 @@ ghost use Rattle.im_ctree.specs.Tree as tree;
 ghost use Rattle.im_ctree.specs.Grammar.{IsExpression, IsParameter};
 ghost use Rattle.im_ctree.specs.Units.{IsDeclaration, IsBlock, IsStatement, Spells};
 ghost use Rattle.im_ctree.specs.Typedefs.{names_behind_block};
-ghost use Rattle.im_ctree.specs.Samples.{program_words, program_tree, else_words, else_tree, do_words, do_tree, sizeof_words, sizeof_type_tree, sizeof_expression_tree, cast_words, cast_tree, call_tree, parameter_words, int_specifiers, parameter_tree, scope_words, scope_tree, nothing_words, nothing_tree, grouped_words, grouped_tree, assignment_words};
+ghost use Rattle.im_ctree.specs.Samples.{program_words, program_tree, else_words, else_tree};
+ghost use Rattle.im_ctree.specs.Samples.{do_words, do_tree, sizeof_words, sizeof_type_tree};
+ghost use Rattle.im_ctree.specs.Samples.{sizeof_expression_tree, cast_words, cast_tree, call_tree};
+ghost use Rattle.im_ctree.specs.Samples.{parameter_words, int_specifiers, parameter_tree};
+ghost use Rattle.im_ctree.specs.Samples.{scope_words, scope_tree, nothing_words, nothing_tree};
+ghost use Rattle.im_ctree.specs.Samples.{grouped_words, grouped_tree, assignment_words};
 
 /// `int main ( void ) { putchar ( 72 ) ; return 7 ; }` is a unit.
 pub fn program_example()

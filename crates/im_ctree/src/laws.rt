@@ -3,7 +3,9 @@
 ghost use Rattle.std.specs.Prelude.{◌≡◌, ℕ, ◌<◌, Bool, List, [], ◌++◌, length};
 ghost use Rattle.im_word.specs.Words.{Name, Word};
 ghost use Rattle.im_ctree.specs.Tree as tree;
-ghost use Rattle.im_ctree.specs.Grammar.{IsExpression, IsAssignment, IsConditional, IsBinary, IsCast, IsUnary, IsPostfix, IsPrimary, IsSpecifiers, IsDeclarator, IsParameter, IsTypeName};
+ghost use Rattle.im_ctree.specs.Grammar.{IsExpression, IsAssignment, IsConditional, IsBinary};
+ghost use Rattle.im_ctree.specs.Grammar.{IsCast, IsUnary, IsPostfix, IsPrimary, IsSpecifiers};
+ghost use Rattle.im_ctree.specs.Grammar.{IsDeclarator, IsParameter, IsTypeName};
 ghost use Rattle.im_ctree.specs.Units.{IsDeclaration, IsStatement, IsUnit, Spells, IsFront};
 
 /// Every derivation of a unit has a word.

@@ -1,13 +1,17 @@
 //! What holds of types and of their layouts, whatever the structs of the unit. Each law is a
 //! function with an empty body, whose contract says it.
-ghost use Rattle.std.specs.Prelude.{◌≡◌, ◌↔◌, ℕ, ◌+◌, ◌%◌, ◌<◌, ◌≤◌, ◌++◌, List, length, slice_get, Some, true};
+ghost use Rattle.std.specs.Prelude.{◌≡◌, ◌↔◌, ℕ, ◌+◌, ◌%◌, ◌<◌, ◌≤◌, ◌++◌, List, length, slice_get};
+ghost use Rattle.std.specs.Prelude.{Some, true};
 ghost use Rattle.im_ctype.specs.declared.member.MemberPlace.{MemberPlace};
 ghost use Rattle.im_num.specs.Kinds.{bits, is_signed};
 ghost use Rattle.im_ctype.specs.declared.integer.Integer.{Integer};
-ghost use Rattle.im_ctype.specs.Types.{CType, Member, Structs, array, struct, members_of, same_type, kind_of, traits};
-ghost use Rattle.im_ctype.specs.Layout.{IsComplete, MembersAreComplete, AreComplete, layout, layouts, moved, round_up, struct_in};
+ghost use Rattle.im_ctype.specs.Types.{CType, Member, Structs, array, struct, members_of};
+ghost use Rattle.im_ctype.specs.Types.{same_type, kind_of, traits};
+ghost use Rattle.im_ctype.specs.Layout.{IsComplete, MembersAreComplete, AreComplete, layout};
+ghost use Rattle.im_ctype.specs.Layout.{layouts, moved, round_up, struct_in};
 ghost use Rattle.im_ctype.specs.Members.{places, member_cells};
-ghost use Rattle.im_ctype.specs.Laws.{CellsInside, CellsAlignedAt, CellsDisjoint, IsAlignment, cells_from, cells_side_by_side};
+ghost use Rattle.im_ctype.specs.Laws.{CellsInside, CellsAlignedAt, CellsDisjoint, IsAlignment};
+ghost use Rattle.im_ctype.specs.Laws.{cells_from, cells_side_by_side};
 
 /// A cell of an integer type has as many bits as the type, and is signed where the type is.
 pub fn kind_law()

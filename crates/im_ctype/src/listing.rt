@@ -1,6 +1,7 @@
 ghost use Rattle.std.specs.Prelude.{◌≡◌, ◌+◌, ◌*◌, ◌<◌, ◌^◌, IfOk, OnOk};
 ghost use Rattle.im_ctype.specs.Layout.{moved};
-ghost use Rattle.im_ctype.specs.Pending.{AreFitting, IsFitting, IsStep, cells_of, cost_of, weight_of};
+ghost use Rattle.im_ctype.specs.Pending.{AreFitting, IsFitting, IsStep, cells_of, cost_of};
+ghost use Rattle.im_ctype.specs.Pending.{weight_of};
 ghost use Rattle.im_ctype.specs.Table.{IsIn, layout_of};
 
 use crate::cell::Cell;

@@ -1,4 +1,5 @@
-ghost use Rattle.std.specs.Prelude.{◌≡◌, ℕ, ◌<◌, ◌++◌, [], ◌∷◌, length, slice_get, Some, IfSome, IfNone, IfOk, OnOk, OnErr};
+ghost use Rattle.std.specs.Prelude.{◌≡◌, ℕ, ◌<◌, ◌++◌, [], ◌∷◌, length, slice_get, Some, IfSome};
+ghost use Rattle.std.specs.Prelude.{IfNone, IfOk, OnOk, OnErr};
 ghost use Rattle.im_ctype.specs.Kept.{AreNodes};
 ghost use Rattle.im_ctype.specs.Table.{IsEarlier};
 

@@ -1,9 +1,13 @@
-ghost use Rattle.std.specs.Prelude.{◌≡◌, ℕ, ◌<◌, ◌^◌, ◌*◌, ◌++◌, true, [], ◌∷◌, length, slice_get, Some, IfOk, OnOk, OnErr};
+ghost use Rattle.std.specs.Prelude.{◌≡◌, ℕ, ◌<◌, ◌^◌, ◌*◌, ◌++◌, true, [], ◌∷◌, length, slice_get};
+ghost use Rattle.std.specs.Prelude.{Some, IfOk, OnOk, OnErr};
 ghost use Rattle.im_ctype.specs.Types.{same_type};
 ghost use Rattle.im_ctype.specs.Members.{places, places_in};
 ghost use Rattle.im_ctype.specs.Kept.{AreMembersIn, kept_extent, extent_of};
-ghost use Rattle.im_ctype.specs.Layout.{layouts, layout_at, struct_in, AreComplete, MembersAreComplete};
-ghost use Rattle.im_ctype.specs.Table.{IsEarlier, IsSound, with_struct, members_at, members_in, IsIn, IsTypeOf, IsGrown, type_at, type_of_node, types_of, structs_of, layout_of};
+ghost use Rattle.im_ctype.specs.Layout.{layouts, layout_at, struct_in, AreComplete};
+ghost use Rattle.im_ctype.specs.Layout.{MembersAreComplete};
+ghost use Rattle.im_ctype.specs.Table.{IsEarlier, IsSound, with_struct, members_at, members_in};
+ghost use Rattle.im_ctype.specs.Table.{IsIn, IsTypeOf, IsGrown, type_at, type_of_node, types_of};
+ghost use Rattle.im_ctype.specs.Table.{structs_of, layout_of};
 
 use crate::extent::{Extent, round_up};
 use crate::member::{Member, MemberPlace};

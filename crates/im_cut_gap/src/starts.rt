@@ -1,5 +1,6 @@
 ghost use Rattle.std.specs.Prelude.{◌≡◌, ◌==◌, IfOk, Some, length};
-ghost use Rattle.im_cut_gap.specs.Starts.{AreBlank, AreStarts, RaisedWhere, greater as greater_of, is_turned, leads_to, turn_cost, turns_to};
+ghost use Rattle.im_cut_gap.specs.Starts.{AreBlank, AreStarts, RaisedWhere, greater as greater_of};
+ghost use Rattle.im_cut_gap.specs.Starts.{is_turned, leads_to, turn_cost, turns_to};
 
 use crate::lines::leave_cost;
 use im_block::{Block, Exit, Function};

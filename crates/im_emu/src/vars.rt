@@ -1,11 +1,13 @@
-ghost use Rattle.std.specs.Prelude.{◌≡◌, ◌≤◌, ◌+◌, ◌-◌, ◌*◌, ◌%◌, ◌++◌, None, true, if◌then◌else◌, map, IfOk, OnOk};
+ghost use Rattle.std.specs.Prelude.{◌≡◌, ◌≤◌, ◌+◌, ◌-◌, ◌*◌, ◌%◌, ◌++◌, None, true, if◌then◌else◌};
+ghost use Rattle.std.specs.Prelude.{map, IfOk, OnOk};
 ghost use Rattle.std.specs.List.{flat_map};
 ghost use Rattle.im_num.specs.declared.values.CellValue.TheVariants.{Inside, Local};
 ghost use Rattle.im_num.specs.Kinds.{kind_size};
 ghost use Rattle.im_mem.specs.Memory.{little, is_place};
 ghost use Rattle.im_image.specs.Contents.{run_end, AreRuns};
 ghost use Rattle.im_num.specs.Variables.{variable_of};
-ghost use Rattle.im_device.specs.Variables.{reaches, place_from, pointer_of, cell_of, run_cells, vars_of};
+ghost use Rattle.im_device.specs.Variables.{reaches, place_from, pointer_of, cell_of, run_cells};
+ghost use Rattle.im_device.specs.Variables.{vars_of};
 ghost use Rattle.im_emu.specs.Layouts.{AreLaidOut, HaveBegun};
 
 use im_image::{CellRun, Object};

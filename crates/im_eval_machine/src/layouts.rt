@@ -8,7 +8,9 @@ ghost use Rattle.im_store.specs.Objects.{shape_of};
 ghost use Rattle.im_typed.specs.ProgramOf.{func_of, object_of, static_of};
 ghost use Rattle.im_typed.specs.declared.program.Func as rust_func;
 ghost use Rattle.im_typed.specs.declared.program.Static as rust_static;
-ghost use Rattle.im_eval_machine.specs.Settings.{AreLayouts, AreLayoutsOf, ArePlans, HasKnownTypes, HasTypes, IsPlanOf, cells_at, local_shapes, static_shapes};
+ghost use Rattle.im_eval_machine.specs.Settings.{AreLayouts, AreLayoutsOf, ArePlans, HasKnownTypes};
+ghost use Rattle.im_eval_machine.specs.Settings.{HasTypes, IsPlanOf, cells_at, local_shapes};
+ghost use Rattle.im_eval_machine.specs.Settings.{static_shapes};
 
 use crate::code::{Layout, Layouts};
 use im_ctype::{Cell, TypeTable, cells, cells_of_struct, size_of};

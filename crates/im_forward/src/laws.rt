@@ -1,4 +1,5 @@
-ghost use Rattle.im_forward.specs.Laws.{CostLaw, ForwardLaw, FormedLaw, OrderedLaw, PlaceableLaw, RestLaw, UncutLaw, WrittenLaw};
+ghost use Rattle.im_forward.specs.Laws.{CostLaw, ForwardLaw, FormedLaw, OrderedLaw, PlaceableLaw};
+ghost use Rattle.im_forward.specs.Laws.{RestLaw, UncutLaw, WrittenLaw};
 ghost use Rattle.im_forward.specs.RegistersLaws.{RegistersLaw};
 
 /// Code whose copies are forwarded does what the code does.

@@ -1,7 +1,8 @@
 ghost use Rattle.std.specs.Prelude.{◌≡◌, ◌<◌, ◌-◌, ◌++◌, ◌∷◌, [], length, slice_index, OnOk, IfOk};
 ghost use Rattle.im_gap.specs.Walks.{IsEndless};
 ghost use Rattle.im_gap.specs.Graph.{successors_of, size_of, IsGraph};
-ghost use Rattle.im_gap.specs.Search.{mark_at, changes_left, IsDone, AreDone, KeepsDone, LeadsTo, IsSearchOf, AreCursorsOf};
+ghost use Rattle.im_gap.specs.Search.{mark_at, changes_left, IsDone, AreDone, KeepsDone, LeadsTo};
+ghost use Rattle.im_gap.specs.Search.{IsSearchOf, AreCursorsOf};
 
 use crate::graph::Graph;
 use crate::marks::{Mark, advance, greatest};

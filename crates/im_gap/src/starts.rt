@@ -1,4 +1,5 @@
-ghost use Rattle.std.specs.Prelude.{◌≡◌, ◌<◌, ◌≤◌, ◌⊎◌, ◌*◌, [], ℕ, length, slice_index, IfOk, IfSome, None};
+ghost use Rattle.std.specs.Prelude.{◌≡◌, ◌<◌, ◌≤◌, ◌⊎◌, ◌*◌, [], ℕ, length, slice_index, IfOk};
+ghost use Rattle.std.specs.Prelude.{IfSome, None};
 ghost use Rattle.std.specs.List.{Contains};
 ghost use Rattle.im_gap.specs.Walks.{IsHeight, IsGreatest, IsEndless};
 ghost use Rattle.im_gap.specs.Graph.{successors_of, weight_of, size_of, IsGraph, AreNodes};

@@ -1,4 +1,5 @@
-ghost use Rattle.std.specs.Prelude.{◌≡◌, ◌+◌, ◌<◌, ◌≤◌, [], ◌++◌, ◌^◌, length, slice_index, OnOk, IfOk, cond};
+ghost use Rattle.std.specs.Prelude.{◌≡◌, ◌+◌, ◌<◌, ◌≤◌, [], ◌++◌, ◌^◌, length, slice_index, OnOk};
+ghost use Rattle.std.specs.Prelude.{IfOk, cond};
 ghost use Rattle.im_rv.specs.Decode.{decode as decoded};
 ghost use Rattle.im_gap.specs.Flow.{links};
 ghost use Rattle.im_gap.specs.Table.{following, successors_by, behind, Drawn};

@@ -1,6 +1,7 @@
 ghost use Rattle.std.specs.Prelude.{◌≡◌, ◌++◌, IfOk, OnOk};
 ghost use Rattle.std.specs.String.{string_bytes};
-ghost use Rattle.im_gen.specs.Gen.{call_text, calls_text, function_text, functions_text, gen_source};
+ghost use Rattle.im_gen.specs.Gen.{call_text, calls_text, function_text, functions_text};
+ghost use Rattle.im_gen.specs.Gen.{gen_source};
 
 use crate::sequence::next_word;
 use im_num::NoMemory;

@@ -1,7 +1,10 @@
-ghost use Rattle.std.specs.Prelude.{◌≡◌, ◌≤◌, ◌+◌, ◌*◌, length, None, true, false, IfOk, OnOk, OnErr, IfErr};
+ghost use Rattle.std.specs.Prelude.{◌≡◌, ◌≤◌, ◌+◌, ◌*◌, length, None, true, false, IfOk, OnOk};
+ghost use Rattle.std.specs.Prelude.{OnErr, IfErr};
 ghost use Rattle.im_image.specs.Header.{header_at};
 ghost use Rattle.im_image.specs.Faults as faults;
-ghost use Rattle.im_image.specs.Faults.{form_at, header_size, header_requirements, form_requirements, first_unmet, version_of, form_of, IsFaultOf};
+ghost use Rattle.im_image.specs.Faults.{form_at, header_size, header_requirements};
+ghost use Rattle.im_image.specs.Faults.{form_requirements, first_unmet, version_of, form_of};
+ghost use Rattle.im_image.specs.Faults.{IsFaultOf};
 
 use crate::fault::ImageFault;
 use crate::form::Form;

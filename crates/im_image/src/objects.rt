@@ -1,7 +1,9 @@
 ghost use Rattle.std.specs.Prelude.{◌≡◌, ◌+◌, ◌<◌, ◌≤◌, length, None, IfOk, OnOk, IfErr};
 ghost use Rattle.im_image.specs.declared.fault.ImageFault.TheVariants.{ShortImage};
 ghost use Rattle.im_mem.specs.Map.{statics_start};
-ghost use Rattle.im_image.specs.Faults.{object_at, objects_at, record_end, object_requirements, objects_requirements, first_unmet, objects_field, version_at, IsFaultOf, word_at as word_of};
+ghost use Rattle.im_image.specs.Faults.{object_at, objects_at, record_end, object_requirements};
+ghost use Rattle.im_image.specs.Faults.{objects_requirements, first_unmet, objects_field};
+ghost use Rattle.im_image.specs.Faults.{version_at, IsFaultOf, word_at as word_of};
 
 use crate::fault::ImageFault;
 use crate::object::Object;

@@ -3,7 +3,8 @@ ghost use Rattle.im_image.specs.declared.fault.ImageFault.{ImageFault};
 ghost use Rattle.im_image.specs.Contents.{ImageValue, IsImage};
 ghost use Rattle.im_image.specs.Text.{image_text};
 ghost use Rattle.im_image.specs.Header.{header_at};
-ghost use Rattle.im_image.specs.Faults.{fault_of, form_at, front_requirements, first_unmet, image_at, objects_place, version_at, IsFaultOf, IsAnswer};
+ghost use Rattle.im_image.specs.Faults.{fault_of, form_at, front_requirements, first_unmet};
+ghost use Rattle.im_image.specs.Faults.{image_at, objects_place, version_at, IsFaultOf, IsAnswer};
 
 use crate::fault::ImageFault;
 use crate::form::Form;

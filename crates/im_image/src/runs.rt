@@ -1,5 +1,7 @@
-ghost use Rattle.std.specs.Prelude.{◌≡◌, ◌+◌, ◌*◌, ◌<◌, ◌≤◌, length, None, IfOk, OnOk, IfErr, Option};
-ghost use Rattle.im_image.specs.Faults.{runs_at, run_at, run_requirements, first_unmet, objects_field, version_at, IsFaultOf, word_at as word_of};
+ghost use Rattle.std.specs.Prelude.{◌≡◌, ◌+◌, ◌*◌, ◌<◌, ◌≤◌, length, None, IfOk, OnOk, IfErr};
+ghost use Rattle.std.specs.Prelude.{Option};
+ghost use Rattle.im_image.specs.Faults.{runs_at, run_at, run_requirements, first_unmet};
+ghost use Rattle.im_image.specs.Faults.{objects_field, version_at, IsFaultOf, word_at as word_of};
 
 use crate::fault::ImageFault;
 use crate::object::CellRun;

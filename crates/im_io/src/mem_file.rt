@@ -1,4 +1,6 @@
-ghost use Rattle.std.specs.Prelude.{◌≡◌, ◌<◌, ◌≤◌, ◌+◌, ◌-◌, ◌^◌, ◌++◌, ◌↔◌, min, IsErr, [], Some, None, is_some, option_map, IsTrue, MatchOption, MatchResult, take, drop, length, IfOk};
+ghost use Rattle.std.specs.Prelude.{◌≡◌, ◌<◌, ◌≤◌, ◌+◌, ◌-◌, ◌^◌, ◌++◌, ◌↔◌, min, IsErr, [], Some};
+ghost use Rattle.std.specs.Prelude.{None, is_some, option_map, IsTrue, MatchOption, MatchResult};
+ghost use Rattle.std.specs.Prelude.{take, drop, length, IfOk};
 ghost use Rattle.std.specs.Str.{bytes_eq};
 ghost use Rattle.im_io.specs.MemFiles.{File, bytes_of, new_file, left};
 ghost use Rattle.im_io.specs.Rooms.{NothingFits};

@@ -1,4 +1,5 @@
-ghost use Rattle.std.specs.Prelude.{◌≡◌, ℕ, ◌<◌, ◌^◌, ◌==◌, List, All, IfOk, IfErr, MatchResult, length, count_by};
+ghost use Rattle.std.specs.Prelude.{◌≡◌, ℕ, ◌<◌, ◌^◌, ◌==◌, List, All, IfOk, IfErr, MatchResult};
+ghost use Rattle.std.specs.Prelude.{length, count_by};
 ghost use Rattle.im_lex.specs.Lexing.{Lexes, StuckAt};
 ghost use Rattle.im_lex.specs.Faults.{IsLexFault};
 ghost use Rattle.im_lex.specs.Tokens.{IsTokenOf};

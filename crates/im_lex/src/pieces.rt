@@ -1,4 +1,5 @@
-ghost use Rattle.std.specs.Prelude.{◌≡◌, ◌≢◌, ℕ, ◌<◌, ◌⊎◌, Bool, IsTrue, MatchResult, length, slice_index};
+ghost use Rattle.std.specs.Prelude.{◌≡◌, ◌≢◌, ℕ, ◌<◌, ◌⊎◌, Bool, IsTrue, MatchResult, length};
+ghost use Rattle.std.specs.Prelude.{slice_index};
 ghost use Rattle.im_lex.specs.Openings.{opening_of};
 ghost use Rattle.im_lex.specs.Bytes.{IsNameStart, IsBlank};
 ghost use Rattle.im_lex.specs.Pieces.{IsNext, HasNone, BeginsNumber};

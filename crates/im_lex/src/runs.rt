@@ -1,4 +1,5 @@
-ghost use Rattle.std.specs.Prelude.{◌≡◌, ◌≢◌, ℕ, ◌≤◌, ◌<◌, ◌+◌, ◌↔◌, IsTrue, MatchOption, length, slice_index};
+ghost use Rattle.std.specs.Prelude.{◌≡◌, ◌≢◌, ℕ, ◌≤◌, ◌<◌, ◌+◌, ◌↔◌, IsTrue, MatchOption, length};
+ghost use Rattle.std.specs.Prelude.{slice_index};
 ghost use Rattle.im_lex.specs.Bytes.{IsNameByte, IsGap, GoesOn};
 ghost use Rattle.im_lex.specs.Pieces.{ClosesAt, BeginsMarker};
 ghost use Rattle.im_lex.specs.Runs.{IsRun, IsNumberEnd, IsCommentEnd};

@@ -1,9 +1,11 @@
-ghost use Rattle.std.specs.Prelude.{◌≡◌, ◌+◌, ◌<◌, ◌≤◌, ◌++◌, ◌∷◌, [], List, length, nat_eq, IfSome, OnOk};
+ghost use Rattle.std.specs.Prelude.{◌≡◌, ◌+◌, ◌<◌, ◌≤◌, ◌++◌, ◌∷◌, [], List, length, nat_eq};
+ghost use Rattle.std.specs.Prelude.{IfSome, OnOk};
 ghost use Rattle.std.specs.HashMap as hash;
 ghost use Rattle.im_rv.specs.Code.{address};
 ghost use Rattle.im_rv.specs.declared.code.Part.{Part as CodePart};
 ghost use Rattle.im_link.specs.Parts.{word_count};
-ghost use Rattle.im_link.specs.State.{AreAccessesOf, AreAccessesInside, IsNamedAt, IsCauseBy, AddsCutOf, AreFirstCuts};
+ghost use Rattle.im_link.specs.State.{AreAccessesOf, AreAccessesInside, IsNamedAt, IsCauseBy};
+ghost use Rattle.im_link.specs.State.{AddsCutOf, AreFirstCuts};
 ghost use Rattle.im_link.specs.Code.{AreDependencesNamed};
 
 use crate::places::{Accesses, accesses_of, find_access};

@@ -1,4 +1,5 @@
-ghost use Rattle.std.specs.Prelude.{◌≡◌, ◌≢◌, ◌+◌, ◌<◌, ◌≤◌, ◌++◌, ◌∷◌, [], true, false, List, length, IfErr, MatchResult, OnOk, Err};
+ghost use Rattle.std.specs.Prelude.{◌≡◌, ◌≢◌, ◌+◌, ◌<◌, ◌≤◌, ◌++◌, ◌∷◌, [], true, false, List};
+ghost use Rattle.std.specs.Prelude.{length, IfErr, MatchResult, OnOk, Err};
 ghost use Rattle.im_rv.specs.declared.code.Part.{Part as CodePart};
 ghost use Rattle.im_link.specs.Parts.{byte_count};
 ghost use Rattle.im_link.specs.Code.{IsLinkable, IsLinked, IsFaultOf, byte_limit, told_count};

@@ -2,7 +2,8 @@ ghost use Rattle.std.specs.Prelude.{◌≡◌, ◌+◌, ◌<◌, ◌≤◌, ◌+
 ghost use Rattle.std.specs.HashMap as hash;
 ghost use Rattle.im_rv.specs.declared.code.Line.{Line as CodeLine};
 ghost use Rattle.im_link.specs.Links.{AreWordsOf};
-ghost use Rattle.im_link.specs.State.{AddsAim, AreAimsNear, AreLinesKept, IsAimedWord, IsNearAim, IsPut};
+ghost use Rattle.im_link.specs.State.{AddsAim, AreAimsNear, AreLinesKept, IsAimedWord, IsNearAim};
+ghost use Rattle.im_link.specs.State.{IsPut};
 
 use crate::aim::{Aim, aimed};
 use crate::places::{Places, find, note};

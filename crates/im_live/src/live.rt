@@ -1,6 +1,7 @@
 ghost use Rattle.std.specs.Prelude.{◌≡◌, length, IfOk};
 ghost use Rattle.im_live.specs.Reads.{IsLive};
-ghost use Rattle.im_live.specs.Words.{starts_have, ArePoints, ArePointsOf, IsMachineBlock, AreMachine};
+ghost use Rattle.im_live.specs.Words.{starts_have, ArePoints, ArePointsOf, IsMachineBlock};
+ghost use Rattle.im_live.specs.Words.{AreMachine};
 
 use crate::registers::{before, before_exit};
 use crate::sweeps::sweep;

@@ -1,7 +1,9 @@
-ghost use Rattle.std.specs.Prelude.{◌≡◌, ◌≤◌, ◌<◌, ◌+◌, ◌&&◌, ◌||◌, ◌==◌, ℕ, length, not, nat_le, nat_lt};
+ghost use Rattle.std.specs.Prelude.{◌≡◌, ◌≤◌, ◌<◌, ◌+◌, ◌&&◌, ◌||◌, ◌==◌, ℕ, length, not, nat_le};
+ghost use Rattle.std.specs.Prelude.{nat_lt};
 ghost use Rattle.im_alloc_relation.specs.Live.{uses, place_uses, result_uses};
 ghost use Rattle.im_live.specs.Reads.{in_frame, reads, reads_stack, writes, exit_live};
-ghost use Rattle.im_live.specs.Words.{has, starts_have, PlaceBelow, IsMachineLine, IsMachineResult, IsMachineExit};
+ghost use Rattle.im_live.specs.Words.{has, starts_have, PlaceBelow, IsMachineLine, IsMachineResult};
+ghost use Rattle.im_live.specs.Words.{IsMachineExit};
 
 use im_block::{Exit, Line, Place};
 

@@ -1,7 +1,8 @@
 ghost use Rattle.std.specs.Prelude.{◌≡◌, ◌≤◌, ◌<◌, ℕ, length, sum};
 ghost use Rattle.std.specs.Bool.{OnTrue, OnFalse};
 ghost use Rattle.im_live.specs.Reads.{lives_before};
-ghost use Rattle.im_live.specs.Words.{has, starts_have, Joins, IsMachineBlock, AreMachine, AreRead, AreClosed, AreWords};
+ghost use Rattle.im_live.specs.Words.{has, starts_have, Joins, IsMachineBlock, AreMachine, AreRead};
+ghost use Rattle.im_live.specs.Words.{AreClosed, AreWords};
 
 use crate::registers::{before, before_exit};
 use im_block::Block;

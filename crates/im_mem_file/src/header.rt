@@ -2,7 +2,9 @@ ghost use Rattle.std.specs.Prelude.{◌≡◌, ◌+◌, ◌≤◌, length, None,
 ghost use Rattle.im_image.specs.Faults as texts;
 ghost use Rattle.im_image.specs.Faults.{word_at as word_of, version_of, version_at, form_of};
 ghost use Rattle.im_mem_file.specs.Faults as faults;
-ghost use Rattle.im_mem_file.specs.Faults.{header_requirements, version_requirements, form_requirements, count_requirements, first_unmet, pages_place, form_in, IsFaultOf};
+ghost use Rattle.im_mem_file.specs.Faults.{header_requirements, version_requirements};
+ghost use Rattle.im_mem_file.specs.Faults.{form_requirements, count_requirements, first_unmet};
+ghost use Rattle.im_mem_file.specs.Faults.{pages_place, form_in, IsFaultOf};
 ghost use Rattle.im_mem_file.specs.Header.{header_at};
 
 use crate::fault::MemoryFault;

@@ -1,7 +1,8 @@
 ghost use Rattle.std.specs.Prelude.{◌≡◌, ◌+◌, ◌≤◌, length, None, IfOk, OnOk, IfErr};
 ghost use Rattle.im_mem.specs.Memory.{view};
 ghost use Rattle.im_image.specs.Faults.{word_at as word_of};
-ghost use Rattle.im_mem_file.specs.Faults.{first_unmet, page_requirements, pages_requirements, page_bytes, page_laid, pages_laid, IsFaultOf};
+ghost use Rattle.im_mem_file.specs.Faults.{first_unmet, page_requirements, pages_requirements};
+ghost use Rattle.im_mem_file.specs.Faults.{page_bytes, page_laid, pages_laid, IsFaultOf};
 
 use crate::fault::MemoryFault;
 use crate::words::{check, short, word_at};

@@ -1,4 +1,5 @@
-ghost use Rattle.std.specs.Prelude.{◌≡◌, ◌+◌, ◌<◌, ◌≤◌, length, true, false, IfOk, OnOk, OnErr, IfErr};
+ghost use Rattle.std.specs.Prelude.{◌≡◌, ◌+◌, ◌<◌, ◌≤◌, length, true, false, IfOk, OnOk, OnErr};
+ghost use Rattle.std.specs.Prelude.{IfErr};
 ghost use Rattle.im_mem_file.specs.declared.fault.MemoryFault.TheVariants.{ShortMemory};
 ghost use Rattle.im_image.specs.Faults.{word_at as word_of};
 

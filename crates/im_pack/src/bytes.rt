@@ -1,4 +1,5 @@
-ghost use Rattle.std.specs.Prelude.{◌≡◌, ◌≤◌, ◌<◌, ◌+◌, ◌-◌, ◌^◌, ◌++◌, length, replicate, IfOk, OnOk};
+ghost use Rattle.std.specs.Prelude.{◌≡◌, ◌≤◌, ◌<◌, ◌+◌, ◌-◌, ◌^◌, ◌++◌, length, replicate, IfOk};
+ghost use Rattle.std.specs.Prelude.{OnOk};
 ghost use Rattle.im_num.specs.Bytes.{bytes_of};
 ghost use Rattle.im_num.specs.Kinds.{kind_size as size_of_kind};
 ghost use Rattle.im_frame.specs.Layout.{room};

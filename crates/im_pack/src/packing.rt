@@ -1,5 +1,6 @@
 ghost use Rattle.std.specs.Prelude.{◌≡◌, ◌≤◌, ◌<◌, ◌^◌, map, slice_index, IfOk, ℕ};
-ghost use Rattle.im_mem.specs.Map.{output_capacity, stack_capacity, statics_capacity, statics_start};
+ghost use Rattle.im_mem.specs.Map.{output_capacity, stack_capacity, statics_capacity};
+ghost use Rattle.im_mem.specs.Map.{statics_start};
 ghost use Rattle.im_block.specs.declared.unit.Unit.{Unit};
 ghost use Rattle.im_block.specs.Meaning.{static_of};
 ghost use Rattle.im_frame.specs.Layout.{places_from, rooms};

@@ -1,7 +1,8 @@
 ghost use Rattle.std.specs.Prelude.{◌≡◌, ◌<◌, ◌+◌, ◌^◌, IfOk, OnOk, Some, slice_get, ℕ};
 ghost use Rattle.im_ctype.specs.declared.cell.Cell.{Cell as CellOf};
 ghost use Rattle.im_image.specs.Contents.{kind_code as code_of_kind};
-ghost use Rattle.im_pack.specs.Objects.{added, goes_on as does_go_on, one_cell as cell_alone, runs_of as cells_as_runs};
+ghost use Rattle.im_pack.specs.Objects.{added, goes_on as does_go_on, one_cell as cell_alone};
+ghost use Rattle.im_pack.specs.Objects.{runs_of as cells_as_runs};
 
 use crate::bytes::kind_size;
 use im_ctype::Cell;

@@ -1,4 +1,5 @@
-ghost use Rattle.std.specs.Prelude.{◌≡◌, ◌∷◌, [], ◌↔◌, ◌<◌, ◌^◌, ℕ, List, Some, IsTrue, MatchOption, length, map, drop};
+ghost use Rattle.std.specs.Prelude.{◌≡◌, ◌∷◌, [], ◌↔◌, ◌<◌, ◌^◌, ℕ, List, Some, IsTrue};
+ghost use Rattle.std.specs.Prelude.{MatchOption, length, map, drop};
 ghost use Rattle.im_word.specs.Shown.{shown};
 ghost use Rattle.im_word.specs.Words.{name, keyword, mark};
 ghost use Rattle.im_parse_core.specs.Reads.{head};

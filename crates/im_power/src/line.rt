@@ -1,5 +1,6 @@
 ghost use Rattle.std.specs.Prelude.{◌≡◌, map, IfOk};
-ghost use Rattle.im_power.specs.Text.{number, mask_of, period, by_fields, line_of, fields, is_blank as blank_test, is_comment as comment_test};
+ghost use Rattle.im_power.specs.Text.{number, mask_of, period, by_fields, line_of, fields};
+ghost use Rattle.im_power.specs.Text.{is_blank as blank_test, is_comment as comment_test};
 
 use crate::period::Period;
 use std::alloc::{AllocError, Global};

@@ -1,5 +1,6 @@
 ghost use Rattle.std.specs.Prelude.{◌≡◌, ◌+◌, ◌-◌, ◌^◌, ◌++◌, ◌∷◌, [], None, OnOk, IfErr, min};
-ghost use Rattle.im_power.specs.Text.{trace_of, IsAnswer, IsFaultOf, first_fault, periods_of, repeats as repeats_of};
+ghost use Rattle.im_power.specs.Text.{trace_of, IsAnswer, IsFaultOf, first_fault, periods_of};
+ghost use Rattle.im_power.specs.Text.{repeats as repeats_of};
 
 use crate::fault::TraceFault;
 use crate::line::{Line, read_line};

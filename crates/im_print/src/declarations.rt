@@ -1,5 +1,6 @@
 ghost use Rattle.std.specs.Prelude.{◌≡◌, false, OnOk};
-ghost use Rattle.im_ctree.specs.Shape.{declaration_of, init_declarators_of, initializer_of, maybe_initializer_of};
+ghost use Rattle.im_ctree.specs.Shape.{declaration_of, init_declarators_of, initializer_of};
+ghost use Rattle.im_ctree.specs.Shape.{maybe_initializer_of};
 ghost use Rattle.im_ctree.specs.Tree as t;
 ghost use Rattle.im_ctree.specs.Typedefs.{typedef_names};
 ghost use Rattle.im_print_relation.specs.Printed as printed;

@@ -4,7 +4,8 @@ ghost use Rattle.im_tok.specs.declared.punctuator.Punctuator.TheVariants as punc
 ghost use Rattle.im_word.specs.Words.{keyword, mark};
 ghost use Rattle.im_ctree.specs.Tree as t;
 ghost use Rattle.im_ctree.specs.Shape.{block_items_of, for_init_of, optional_expression_of};
-ghost use Rattle.im_ctree.specs.Typedefs.{names_behind, names_behind_else, names_behind_init, names_behind_items};
+ghost use Rattle.im_ctree.specs.Typedefs.{names_behind, names_behind_else, names_behind_init};
+ghost use Rattle.im_ctree.specs.Typedefs.{names_behind_items};
 ghost use Rattle.im_print_relation.specs.Printed as printed;
 ghost use Rattle.im_print_parts.specs.Output.{Writes, known};
 ghost use Rattle.im_print_parts.specs.Parts.{item_words, names_behind_item, other_from};

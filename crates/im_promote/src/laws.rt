@@ -1,4 +1,5 @@
-ghost use Rattle.im_promote.specs.Laws.{CostLaw, FormedLaw, OrderedLaw, PlaceableLaw, PromoteLaw, RestLaw, WrittenLaw};
+ghost use Rattle.im_promote.specs.Laws.{CostLaw, FormedLaw, OrderedLaw, PlaceableLaw, PromoteLaw};
+ghost use Rattle.im_promote.specs.Laws.{RestLaw, WrittenLaw};
 
 /// Promoted code has each outcome that is defined.
 pub fn promote_law()

@@ -1,6 +1,7 @@
 ghost use Rattle.std.specs.Prelude.{◌≡◌, length};
 ghost use Rattle.im_promote.specs.Promote.{taken_into, home_of, promoted};
-ghost use Rattle.im_promote.specs.Homes.{homes_from, EmptiesObject, EmptiesObjects, RewritesBlock, RewritesFunction};
+ghost use Rattle.im_promote.specs.Homes.{homes_from, EmptiesObject, EmptiesObjects, RewritesBlock};
+ghost use Rattle.im_promote.specs.Homes.{RewritesFunction};
 
 use crate::homes::Homes;
 use im_block::{Block, Function, Line, Object, Place};

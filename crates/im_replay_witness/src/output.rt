@@ -1,4 +1,5 @@
-ghost use Rattle.im_replay_witness.specs.Writer.{WriterByteLaw, WriterLaw, WriterOutputLaw, WriterShowsLaw};
+ghost use Rattle.im_replay_witness.specs.Writer.{WriterByteLaw, WriterLaw, WriterOutputLaw};
+ghost use Rattle.im_replay_witness.specs.Writer.{WriterShowsLaw};
 
 /// A program that writes one byte of output has what the compiler owes.
 pub fn writer_law()

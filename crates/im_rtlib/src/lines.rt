@@ -1,6 +1,7 @@
 ghost use Rattle.std.specs.Prelude.{◌≡◌};
 ghost use Rattle.im_rv.specs.Lines.{code_line, line_of};
-ghost use Rattle.im_rtlib.specs.Routines.{aimed as aimed_line, cut as cut_line, labelled as labelled_line, numbered as numbered_line};
+ghost use Rattle.im_rtlib.specs.Routines.{aimed as aimed_line, cut as cut_line};
+ghost use Rattle.im_rtlib.specs.Routines.{labelled as labelled_line, numbered as numbered_line};
 
 use im_num::Cause;
 use im_rv::assembler::jal;

@@ -1,6 +1,7 @@
 ghost use Rattle.std.specs.Prelude.{◌≡◌, IfOk};
 ghost use Rattle.im_rv.specs.Lines.{code_line, code_lines};
-ghost use Rattle.im_rtlib.specs.Routines.{byte_lines, length_lines, middle_cut, putchar, selector_lines};
+ghost use Rattle.im_rtlib.specs.Routines.{byte_lines, length_lines, middle_cut, putchar};
+ghost use Rattle.im_rtlib.specs.Routines.{selector_lines};
 
 use crate::labels::{COUNTED, FIRST, FULL, PUTCHAR, SECOND, STORED};
 use crate::lines::{aimed, cut, labelled};

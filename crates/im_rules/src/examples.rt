@@ -1,7 +1,8 @@
 //! What small trees are typed to. Each example is a function with an empty body, whose contract
 //! says it.
 ghost use Rattle.im_rules.specs.Breaks.{Broken, an_expression};
-ghost use Rattle.im_rules.specs.Samples.{char_in_scope, char_sum, char_sum_term, address_of_one, small_unit, small_program};
+ghost use Rattle.im_rules.specs.Samples.{char_in_scope, char_sum, char_sum_term, address_of_one};
+ghost use Rattle.im_rules.specs.Samples.{small_unit, small_program};
 ghost use Rattle.im_rules.specs.Typed.{Typed};
 ghost use Rattle.im_rules.specs.TypedUnit.{TypedUnit};
 

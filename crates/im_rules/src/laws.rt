@@ -6,8 +6,11 @@ ghost use Rattle.im_ctree.specs.Typedefs.{has_typedef};
 ghost use Rattle.im_ctree.specs.Units.{predeclared_names};
 ghost use Rattle.im_rules.specs.FileScope.{TypeName, predeclared_types};
 ghost use Rattle.im_rules.specs.Rules.{is_typedef};
-ghost use Rattle.im_rules.specs.Laws.{IsTypedOnce, NamesOnce, DeclaresOnce, InitialisedOnce, StatementOnce, ItemsOnce, UnitOnce};
-ghost use Rattle.im_rules.specs.Laws.{TypedBreaksNone, NamedBreaksNone, DeclaredBreaksNone, InitialisedBreaksNone, StatementBreaksNone, ItemsBreakNone, UnitBreaksNone};
+ghost use Rattle.im_rules.specs.Laws.{IsTypedOnce, NamesOnce, DeclaresOnce, InitialisedOnce};
+ghost use Rattle.im_rules.specs.Laws.{StatementOnce, ItemsOnce, UnitOnce};
+ghost use Rattle.im_rules.specs.Laws.{TypedBreaksNone, NamedBreaksNone, DeclaredBreaksNone};
+ghost use Rattle.im_rules.specs.Laws.{InitialisedBreaksNone, StatementBreaksNone, ItemsBreakNone};
+ghost use Rattle.im_rules.specs.Laws.{UnitBreaksNone};
 
 /// No expression, type name, declarator, initialiser, statement, block or unit is typed to two
 /// things.

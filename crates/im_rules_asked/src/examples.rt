@@ -2,18 +2,39 @@
 //! says that a unit keeps all rules, or which node of another breaks which rule first: the node is
 //! told by the number of its first token.
 ghost use Rattle.std.specs.Prelude.{◌≡◌, [], ◌∷◌, Some, None};
-ghost use Rattle.im_rules.specs.Samples.{char_in_scope, char_sum, char_sum_term, in_a_function, small_switch, small_switch_typed, small_unit, small_program};
+ghost use Rattle.im_rules.specs.Samples.{char_in_scope, char_sum, char_sum_term, in_a_function};
+ghost use Rattle.im_rules.specs.Samples.{small_switch, small_switch_typed, small_unit};
+ghost use Rattle.im_rules.specs.Samples.{small_program};
 ghost use Rattle.im_rules_asked.specs.Asked.{fault};
 ghost use Rattle.im_rules_asked.specs.Expressions.{term};
 ghost use Rattle.im_rules_asked.specs.Statements.{statement};
 ghost use Rattle.im_rules_asked.specs.Units.{Typed, first_fault_of};
-ghost use Rattle.im_rules_asked.specs.DeclarationsSamples.{kept_1, broken_1, kept_2, broken_2, kept_3, broken_3, kept_4, broken_4, kept_5, broken_5, kept_6, broken_6, kept_7, broken_7, kept_8, broken_8, inner_tag, outer_tag, tag_of_enum};
-ghost use Rattle.im_rules_asked.specs.UnitsSamples.{kept_9, broken_9, kept_10, broken_10, kept_11, broken_11, kept_12, broken_12, kept_13, broken_13, kept_14, broken_14, kept_15, broken_15, kept_16, broken_16};
-ghost use Rattle.im_rules_asked.specs.OperandsSamples.{kept_17, broken_17, kept_18, broken_18, kept_19, broken_19, kept_20, broken_20, kept_21, broken_21, kept_22, broken_22, kept_23, broken_23, kept_24, broken_24, kept_25, broken_25};
+ghost use Rattle.im_rules_asked.specs.DeclarationsSamples.{kept_1, broken_1, kept_2, broken_2};
+ghost use Rattle.im_rules_asked.specs.DeclarationsSamples.{kept_3, broken_3, kept_4, broken_4};
+ghost use Rattle.im_rules_asked.specs.DeclarationsSamples.{kept_5, broken_5, kept_6, broken_6};
+ghost use Rattle.im_rules_asked.specs.DeclarationsSamples.{kept_7, broken_7, kept_8, broken_8};
+ghost use Rattle.im_rules_asked.specs.DeclarationsSamples.{inner_tag, outer_tag, tag_of_enum};
+ghost use Rattle.im_rules_asked.specs.UnitsSamples.{kept_9, broken_9, kept_10, broken_10, kept_11};
+ghost use Rattle.im_rules_asked.specs.UnitsSamples.{broken_11, kept_12, broken_12, kept_13};
+ghost use Rattle.im_rules_asked.specs.UnitsSamples.{broken_13, kept_14, broken_14, kept_15};
+ghost use Rattle.im_rules_asked.specs.UnitsSamples.{broken_15, kept_16, broken_16};
+ghost use Rattle.im_rules_asked.specs.OperandsSamples.{kept_17, broken_17, kept_18, broken_18};
+ghost use Rattle.im_rules_asked.specs.OperandsSamples.{kept_19, broken_19, kept_20, broken_20};
+ghost use Rattle.im_rules_asked.specs.OperandsSamples.{kept_21, broken_21, kept_22, broken_22};
+ghost use Rattle.im_rules_asked.specs.OperandsSamples.{kept_23, broken_23, kept_24, broken_24};
+ghost use Rattle.im_rules_asked.specs.OperandsSamples.{kept_25, broken_25};
 ghost use Rattle.im_rules_limits.specs.Limits.{of_parameters, of_size, of_statics};
-ghost use Rattle.im_rules_asked.specs.Limits.{sizes_of, excess, first_excess_of, broken, large, first_stop_of};
-ghost use Rattle.im_rules_asked.specs.LimitsSamples.{with_parameters, with_array, with_rows, with_string, with_local, with_struct, measuring_string, large_then_broken, broken_then_large};
-ghost use Rattle.im_rules_asked.specs.OperatorsSamples.{kept_26, broken_26, kept_27, broken_27, kept_28, broken_28, kept_29, broken_29, kept_30, broken_30, kept_31, broken_31, kept_32, broken_32, kept_33, broken_33, kept_34, broken_34};
+ghost use Rattle.im_rules_asked.specs.Limits.{sizes_of, excess, first_excess_of, broken, large};
+ghost use Rattle.im_rules_asked.specs.Limits.{first_stop_of};
+ghost use Rattle.im_rules_asked.specs.LimitsSamples.{with_parameters, with_array, with_rows};
+ghost use Rattle.im_rules_asked.specs.LimitsSamples.{with_string, with_local, with_struct};
+ghost use Rattle.im_rules_asked.specs.LimitsSamples.{measuring_string, large_then_broken};
+ghost use Rattle.im_rules_asked.specs.LimitsSamples.{broken_then_large};
+ghost use Rattle.im_rules_asked.specs.OperatorsSamples.{kept_26, broken_26, kept_27, broken_27};
+ghost use Rattle.im_rules_asked.specs.OperatorsSamples.{kept_28, broken_28, kept_29, broken_29};
+ghost use Rattle.im_rules_asked.specs.OperatorsSamples.{kept_30, broken_30, kept_31, broken_31};
+ghost use Rattle.im_rules_asked.specs.OperatorsSamples.{kept_32, broken_32, kept_33, broken_33};
+ghost use Rattle.im_rules_asked.specs.OperatorsSamples.{kept_34, broken_34};
 
 /// The rules on declarations (C11 6.7.1 to 6.7.3, 6.7.8).
 pub fn declarations_examples()

@@ -1,5 +1,7 @@
 //! What the typing rules give is well typed. Each law is a function with an empty body, whose contract says it.
-ghost use Rattle.im_rules_sound.specs.Laws.{OperationsLaw, ReadsLaw, UnaryLaw, CastsLaw, CommasLaw, ChoicesLaw, AssignsLaw, StepsLaw, SubscriptsLaw, CallsLaw, MembersLaw};
+ghost use Rattle.im_rules_sound.specs.Laws.{OperationsLaw, ReadsLaw, UnaryLaw, CastsLaw, CommasLaw};
+ghost use Rattle.im_rules_sound.specs.Laws.{ChoicesLaw, AssignsLaw, StepsLaw, SubscriptsLaw};
+ghost use Rattle.im_rules_sound.specs.Laws.{CallsLaw, MembersLaw};
 
 /// An operator on well-typed values that its rule allows gives a well-typed value.
 pub fn operations_law()

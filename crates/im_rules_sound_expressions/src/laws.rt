@@ -1,5 +1,6 @@
 //! What the typing rules give of expressions and types. Each law is a function with an empty body, whose contract says it.
-ghost use Rattle.im_rules_sound_expressions.specs.Laws.{DeclaresLaw, ExpressionsLaw, NamesLaw, PartsLaw};
+ghost use Rattle.im_rules_sound_expressions.specs.Laws.{DeclaresLaw, ExpressionsLaw, NamesLaw};
+ghost use Rattle.im_rules_sound_expressions.specs.Laws.{PartsLaw};
 
 /// A member of a well-typed struct that stands at no place is a well-typed value.
 pub fn parts_law()

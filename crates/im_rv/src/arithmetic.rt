@@ -1,5 +1,7 @@
 ghost use Rattle.std.specs.Prelude.{◌≡◌, ◌*◌, ◌/◌, ◌^◌, ◌*ℤ◌, pos};
-ghost use Rattle.im_rv.specs.Steps.{signed, shift_left, shift_right, shift_right_signed, upper_word, less_signed, as_number, overflows, quotient, quotient_unsigned, remainder, remainder_unsigned};
+ghost use Rattle.im_rv.specs.Steps.{signed, shift_left, shift_right, shift_right_signed};
+ghost use Rattle.im_rv.specs.Steps.{upper_word, less_signed, as_number, overflows, quotient};
+ghost use Rattle.im_rv.specs.Steps.{quotient_unsigned, remainder, remainder_unsigned};
 
 const LEAST: u32 = 0x8000_0000;
 

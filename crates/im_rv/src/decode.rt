@@ -1,4 +1,5 @@
-ghost use Rattle.std.specs.Prelude.{◌≡◌, ◌<◌, ◌^◌, ◌*◌, ◌+◌, ◌/◌, ◌%◌, MatchOption, Some, None, IsTrue};
+ghost use Rattle.std.specs.Prelude.{◌≡◌, ◌<◌, ◌^◌, ◌*◌, ◌+◌, ◌/◌, ◌%◌, MatchOption, Some, None};
+ghost use Rattle.std.specs.Prelude.{IsTrue};
 ghost use Rattle.im_rv.specs.Formats.{format_of};
 ghost use Rattle.im_rv.specs.Decode.{bits, fields, op_of, op_in, decode as decoded_word};
 ghost use Rattle.im_rv.specs.Fits.{in_signed, is_even};

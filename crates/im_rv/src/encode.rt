@@ -1,6 +1,7 @@
 ghost use Rattle.std.specs.Prelude.{◌≡◌, ◌<◌, ◌^◌, ℕ, Some};
 ghost use Rattle.im_rv.specs.Decode.{decode};
-ghost use Rattle.im_rv.specs.Encode.{assembled, at_rd, at_rs1, at_rs2, branch_bits, code_bits, encoded, jump_bits};
+ghost use Rattle.im_rv.specs.Encode.{assembled, at_rd, at_rs1, at_rs2, branch_bits, code_bits};
+ghost use Rattle.im_rv.specs.Encode.{encoded, jump_bits};
 ghost use Rattle.im_rv.specs.Lines.{line_of};
 
 use crate::format::Format;

@@ -1,4 +1,5 @@
-ghost use Rattle.im_rv.specs.Laws.{RowsApart, RowsReached, LinesApart, ZeroStays, OneRegister, OnlyStores, WordsStay, BytesStay, TornBetween, EndsCalm};
+ghost use Rattle.im_rv.specs.Laws.{RowsApart, RowsReached, LinesApart, ZeroStays, OneRegister};
+ghost use Rattle.im_rv.specs.Laws.{OnlyStores, WordsStay, BytesStay, TornBetween, EndsCalm};
 
 /// No word stands for two operations, so the order of the table is no matter.
 pub fn rows_apart_law()

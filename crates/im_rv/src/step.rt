@@ -1,5 +1,6 @@
 ghost use Rattle.std.specs.Prelude.{◌≡◌, ◌<◌};
-ghost use Rattle.im_rv.specs.Steps.{effected, cpu_of, regs_of, row, with_reg, word, extended, done_by};
+ghost use Rattle.im_rv.specs.Steps.{effected, cpu_of, regs_of, row, with_reg, word, extended};
+ghost use Rattle.im_rv.specs.Steps.{done_by};
 ghost use Rattle.im_rv.specs.Runs.{step_of};
 
 use crate::decode::decode;

@@ -79,16 +79,6 @@ abbrev pub got_answer : List ℕ → ℕ
 got_answer [] = 0xFFFFFFFF
 got_answer (byte ∷ input) = byte
 
--- putchar stands at pc: the argument and the result are in x10, the return address in x1
-abbrev pub PutsAt : Runtime → ℕ → Type 0
-PutsAt r pc =
-    (m : Mem) (x : ℕ → ℕ) → Called r m x 1 → x 10 < 2 ^ 32 → (d : Done r m pc x (x 1) (put r.capacity (shown m) (x 10)) (left m)) × (d.y 10 ≡ put_answer r.capacity (shown m) (x 10))
-
--- getchar
-abbrev pub GetsAt : Runtime → ℕ → Type 0
-GetsAt r pc =
-    (m : Mem) (x : ℕ → ℕ) → Called r m x 1 → (d : Done r m pc x (x 1) (shown m) (got (left m))) × (d.y 10 ≡ got_answer (left m))
-
 -- a checkpoint: the return address is in x3, and every register but x3 and x4 stays; its one flip is the cut, and it makes at most
 -- 38 steps
 abbrev pub SavesAt : Runtime → ℕ → Type 0

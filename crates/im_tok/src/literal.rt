@@ -1,5 +1,7 @@
-ghost use Rattle.std.specs.Prelude.{◌≡◌, ◌≢◌, ℕ, List, ◌≤◌, ◌<◌, length, IfOk, MatchOption, MatchResult, slice_index};
-ghost use Rattle.im_tok.specs.Literals.{IsElement, NoElement, Refused, simple_escape, IsNumeric, IsCharacter, IsText};
+ghost use Rattle.std.specs.Prelude.{◌≡◌, ◌≢◌, ℕ, List, ◌≤◌, ◌<◌, length, IfOk, MatchOption};
+ghost use Rattle.std.specs.Prelude.{MatchResult, slice_index};
+ghost use Rattle.im_tok.specs.Literals.{IsElement, NoElement, Refused, simple_escape, IsNumeric};
+ghost use Rattle.im_tok.specs.Literals.{IsCharacter, IsText};
 ghost use Rattle.im_tok.specs.declared.literal.Element.{Element};
 
 use crate::digits::{digits_end, digits_value};

@@ -1,5 +1,7 @@
-ghost use Rattle.std.specs.Prelude.{◌≡◌, ℕ, ◌≤◌, ◌<◌, ◌^◌, length, MatchOption, Option, SomeIff, slice_index, find, nat_le};
-ghost use Rattle.im_tok.specs.Numbers.{radix_of, prefix_length, Begins, IsSuffix, greatest, candidates, IsNumeral};
+ghost use Rattle.std.specs.Prelude.{◌≡◌, ℕ, ◌≤◌, ◌<◌, ◌^◌, length, MatchOption, Option, SomeIff};
+ghost use Rattle.std.specs.Prelude.{slice_index, find, nat_le};
+ghost use Rattle.im_tok.specs.Numbers.{radix_of, prefix_length, Begins, IsSuffix, greatest};
+ghost use Rattle.im_tok.specs.Numbers.{candidates, IsNumeral};
 ghost use Rattle.im_tok.specs.declared.number.Base.{Base};
 ghost use Rattle.im_tok.specs.declared.number.Suffix.{Suffix};
 ghost use Rattle.im_tok.specs.declared.number.Number.{Number};

@@ -1,11 +1,15 @@
-ghost use Rattle.std.specs.Prelude.{◌≡◌, ◌-◌, ◌+◌, ◌*◌, ◌^◌, ◌<◌, IfSome, MatchOption, length, map, min, sum_by};
+ghost use Rattle.std.specs.Prelude.{◌≡◌, ◌-◌, ◌+◌, ◌*◌, ◌^◌, ◌<◌, IfSome, MatchOption};
+ghost use Rattle.std.specs.Prelude.{length, map, min, sum_by};
 ghost use Rattle.std.specs.Option.{option_map};
 ghost use Rattle.im_store.specs.im_ctype.Table.{Table};
 ghost use Rattle.im_store.specs.Objects.{same_kind};
-ghost use Rattle.im_typed.specs.ProgramOf.{access_of, place_of, expr_of, piece_of, stmt_of, object_of, func_of};
+ghost use Rattle.im_typed.specs.ProgramOf.{access_of, place_of, expr_of, piece_of, stmt_of};
+ghost use Rattle.im_typed.specs.ProgramOf.{object_of, func_of};
 ghost use Rattle.im_typed.specs.declared.expression.Expr.{size-Expr};
 ghost use Rattle.im_typed.specs.declared.expression.Place.{size-Place};
-ghost use Rattle.im_typed.specs.Counts.{struct_cells, conversions_in, place_nodes, expr_nodes, piece_nodes, optional_nodes, stmt_nodes, func_nodes, func_need, slot_bytes};
+ghost use Rattle.im_typed.specs.Counts.{struct_cells, conversions_in, place_nodes, expr_nodes};
+ghost use Rattle.im_typed.specs.Counts.{piece_nodes, optional_nodes, stmt_nodes, func_nodes};
+ghost use Rattle.im_typed.specs.Counts.{func_need, slot_bytes};
 
 use crate::expression::{Access, Change, Expr, Place};
 use crate::program::{Func, Object};
@@ -105,8 +109,8 @@ fn node_over(left: u64, right: u64) -> u64
     left.saturating_add(right).saturating_add(1)
 }
 
-/// The nodes of an expression. A loop goes down what is converted, what stands in front of a
-/// comma, and what an element is one of, so that chains of them take no stack.
+/// The nodes of an expression. A loop goes down its first operands, so that chains of them take no
+/// stack.
 #[cycle(nodes)]
 fn count_expression(expression: &Expr) -> u64
     ensures { (types : Table) → result ≡ min (expr_nodes (expr_of types expression.now))
@@ -115,74 +119,67 @@ fn count_expression(expression: &Expr) -> u64
     let mut total: u64 = 0;
     let mut rest = expression;
     loop {
-        match rest {
-            Expr::Convert(_, operand) | Expr::Discard(operand) => {
-                total = total.saturating_add(1);
-                rest = operand;
-            }
-            Expr::Comma(left, right) => {
-                total = total
-                    .saturating_add(1)
-                    .saturating_add(count_expression(right));
-                rest = left;
-            }
-            Expr::Move { pointer, by, .. } => {
-                total = total.saturating_add(1).saturating_add(count_expression(by));
-                rest = pointer;
-            }
-            Expr::Read(_, place) | Expr::Address(place) => {
-                let (members, pointer) = count_members(place);
-                total = total.saturating_add(1).saturating_add(members);
-                match pointer {
-                    None => return total,
-                    Some(pointer) => rest = pointer,
-                }
-            }
-            _ => return total.saturating_add(count_form(rest)),
+        let (nodes, operand) = count_behind(rest);
+        total = total.saturating_add(nodes);
+        match operand {
+            None => return total,
+            Some(operand) => rest = operand,
         }
     }
 }
 
-/// The nodes of an expression whose operands are counted each for itself.
+/// The nodes of an expression without those of its first operand, and that operand, if it has one.
 #[cycle(nodes)]
-fn count_form(expression: &Expr) -> u64
-    ensures { (types : Table) → result ≡ min (expr_nodes (expr_of types expression.now))
-        (2 ^ 64 - 1) }
+fn count_behind(expression: &Expr) -> (u64, Option<&Expr>)
+    ensures nodes { (types : Table) → let whole = expr_nodes (expr_of types expression.now) in
+        MatchOption result.1 (result.0 ≡ min whole (2 ^ 64 - 1))
+        (λ operand. min (result.0 + expr_nodes (expr_of types operand.now)) (2 ^ 64 - 1)
+        ≡ min whole (2 ^ 64 - 1)) }
+    ensures below { IfSome result.1 (λ operand.
+        size-Expr operand.now < size-Expr expression.now) }
 {
     match expression {
-        Expr::Number(_, _) | Expr::Null | Expr::Serve(_) => 1,
-        Expr::Read(_, place) | Expr::Address(place) => count_place(place).saturating_add(1),
+        Expr::Number(_, _) | Expr::Null | Expr::Serve(_) => (1, None),
+        Expr::Read(_, place) | Expr::Address(place) => {
+            let (members, pointer) = count_members(place);
+            (members.saturating_add(1), pointer)
+        }
         Expr::Convert(_, operand)
         | Expr::Unary(_, _, operand)
         | Expr::Not(operand)
         | Expr::Discard(operand)
         | Expr::Part { whole: operand, .. }
-        | Expr::ServeWith(_, operand) => count_expression(operand).saturating_add(1),
+        | Expr::ServeWith(_, operand) => (1, Some(operand)),
         Expr::Move { pointer, by, .. } | Expr::MoveBy { by, pointer, .. } => {
-            node_over(count_expression(pointer), count_expression(by))
+            (count_expression(by).saturating_add(1), Some(pointer))
         }
         Expr::Binary(_, _, left, right)
         | Expr::Distance { left, right, .. }
         | Expr::Compare(_, _, left, right)
         | Expr::And(left, right)
         | Expr::Or(left, right)
-        | Expr::Comma(left, right) => node_over(count_expression(left), count_expression(right)),
-        Expr::Choose(test, first, second) => node_over(
-            count_expression(test),
-            count_expression(first),
-        ).saturating_add(count_expression(second)),
+        | Expr::Comma(left, right) => (count_expression(right).saturating_add(1), Some(left)),
+        Expr::Choose(test, first, second) => {
+            (
+                node_over(count_expression(first), count_expression(second)),
+                Some(test),
+            )
+        }
         Expr::Assign(access, place, value) => {
             let parts = node_over(count_place(place), count_expression(value));
-            parts.saturating_add(access_cells(*access))
+            (parts.saturating_add(access_cells(*access)), None)
         }
         Expr::Update { place, change, by } => {
             let parts = node_over(count_place(place), count_expression(by));
-            parts.saturating_add(change_conversions(*change))
+            (parts.saturating_add(change_conversions(*change)), None)
         }
         Expr::Increment { place, change, .. } => {
-            node_over(count_place(place), change_conversions(*change))
+            (
+                node_over(count_place(place), change_conversions(*change)),
+                None,
+            )
         }
-        Expr::Call(_, arguments) => count_arguments(arguments).saturating_add(1),
+        Expr::Call(_, arguments) => (count_arguments(arguments).saturating_add(1), None),
     }
 }
 

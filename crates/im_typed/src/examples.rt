@@ -2,13 +2,32 @@
 //! contract says it; the sources stand in specs/Samples.antt.
 ghost use Rattle.std.specs.Prelude.{◌≡◌, ℕ, List, [], ◌∷◌, pos, negsuc, false};
 ghost use Rattle.im_num.specs.declared.kind.Kind.TheVariants.{I32, U32, Ptr};
-ghost use Rattle.im_store.specs.declared.operators.BinaryOp.TheVariants.{Add, Divide, Remainder, ShiftLeft, ShiftRight};
+ghost use Rattle.im_store.specs.declared.operators.BinaryOp.TheVariants.{Add, Divide, Remainder};
+ghost use Rattle.im_store.specs.declared.operators.BinaryOp.TheVariants.{ShiftLeft, ShiftRight};
 ghost use Rattle.im_store.specs.declared.operators.Comparison.TheVariants.{Equal};
-ghost use Rattle.im_store.specs.declared.undefined.Undefined.TheVariants.{UninitialisedRead, NoSuchCell, OutsideObject, UnrelatedPointers, ZeroDivisor, QuotientOverflow, ShiftCount, MissingResult, DeadPointerRead};
+ghost use Rattle.im_store.specs.declared.undefined.Undefined.TheVariants.{UninitialisedRead};
+ghost use Rattle.im_store.specs.declared.undefined.Undefined.TheVariants.{NoSuchCell};
+ghost use Rattle.im_store.specs.declared.undefined.Undefined.TheVariants.{OutsideObject};
+ghost use Rattle.im_store.specs.declared.undefined.Undefined.TheVariants.{UnrelatedPointers};
+ghost use Rattle.im_store.specs.declared.undefined.Undefined.TheVariants.{ZeroDivisor};
+ghost use Rattle.im_store.specs.declared.undefined.Undefined.TheVariants.{QuotientOverflow};
+ghost use Rattle.im_store.specs.declared.undefined.Undefined.TheVariants.{ShiftCount};
+ghost use Rattle.im_store.specs.declared.undefined.Undefined.TheVariants.{MissingResult};
+ghost use Rattle.im_store.specs.declared.undefined.Undefined.TheVariants.{DeadPointerRead};
 ghost use Rattle.im_store.specs.Outcomes.{Undef, More, End};
-ghost use Rattle.im_typed.specs.Program.{Local, Target, Member, Address, Move, Compare, NullPointer};
+ghost use Rattle.im_typed.specs.Program.{Local, Target, Member, Address, Move, Compare};
+ghost use Rattle.im_typed.specs.Program.{NullPointer};
 ghost use Rattle.im_typed.specs.Programs.{meaning};
-ghost use Rattle.im_typed.specs.Samples.{IsEnd, calls_main, initialises_nested, int, get, pointer, target, first_shown, divides_by_zero, counts_within, computes, signed_char_of_200, endless, reads_unset, recurses, has_two_activations, reads_dead_pointer, uses_dead_result, uses_missing_result, writes_twice, reads_twice, compares_with_one, reads_struct, reads_unset_struct, takes_part, copies_itself, initialises_in_order, initialises_from_itself, switches, goes_on_in_rows, subtracts, orders, orders_two_objects, with_null};
+ghost use Rattle.im_typed.specs.Samples.{IsEnd, calls_main, initialises_nested, int, get, pointer};
+ghost use Rattle.im_typed.specs.Samples.{target, first_shown, divides_by_zero, counts_within};
+ghost use Rattle.im_typed.specs.Samples.{computes, signed_char_of_200, endless, reads_unset};
+ghost use Rattle.im_typed.specs.Samples.{recurses, has_two_activations, reads_dead_pointer};
+ghost use Rattle.im_typed.specs.Samples.{uses_dead_result, uses_missing_result, writes_twice};
+ghost use Rattle.im_typed.specs.Samples.{reads_twice, compares_with_one, reads_struct};
+ghost use Rattle.im_typed.specs.Samples.{reads_unset_struct, takes_part, copies_itself};
+ghost use Rattle.im_typed.specs.Samples.{initialises_in_order, initialises_from_itself, switches};
+ghost use Rattle.im_typed.specs.Samples.{goes_on_in_rows, subtracts, orders, orders_two_objects};
+ghost use Rattle.im_typed.specs.Samples.{with_null};
 
 /// A zero divisor is undefined (C11 6.5.5).
 pub fn zero_divisor()
@@ -186,9 +205,12 @@ pub fn pointers()
 /// `&*p` of a null p is null, `&p[0]` is arithmetic on null, and `*p` is no cell (C11 6.5.3.2).
 pub fn null_pointer()
     ensures address_of_target { (input : List ℕ) (fuel : ℕ) →
-        meaning (with_null (Compare Equal Ptr (Address (target 0)) (NullPointer Ptr))) input fuel ≡ End 0 (pos 1) [] [] }
+        meaning (with_null (Compare Equal Ptr (Address (target 0)) (NullPointer Ptr))) input fuel
+        ≡ End 0 (pos 1) [] [] }
     ensures address_of_element { (input : List ℕ) (fuel : ℕ) →
-        meaning (with_null (Compare Equal Ptr (Address (Target (Move 4 false (pointer (Local 0)) (int 0)))) (NullPointer Ptr))) input fuel ≡ Undef OutsideObject }
+        meaning (with_null (Compare Equal Ptr
+        (Address (Target (Move 4 false (pointer (Local 0)) (int 0)))) (NullPointer Ptr))) input fuel
+        ≡ Undef OutsideObject }
     ensures value { (input : List ℕ) (fuel : ℕ) →
         meaning (with_null (get (target 0))) input fuel ≡ Undef NoSuchCell }
     ensures member { (input : List ℕ) (fuel : ℕ) →

@@ -2,7 +2,8 @@
 //! contract says it.
 ghost use Rattle.std.specs.Prelude.{◌≡◌, ℕ, ◌+◌, ◌^◌, ◌<◌, ◌≤◌, List};
 ghost use Rattle.im_typed.specs.Programs.{Setting, meaning, run_of_main};
-ghost use Rattle.im_typed.specs.Laws.{Extends, FuelAtMost, ShowsStatics, ValuesLaw, StatementsLaw, EndLaw};
+ghost use Rattle.im_typed.specs.Laws.{Extends, FuelAtMost, ShowsStatics, ValuesLaw, StatementsLaw};
+ghost use Rattle.im_typed.specs.Laws.{EndLaw};
 ghost use Rattle.im_typed.specs.Typing.{IsWellTyped};
 ghost use Rattle.im_typed.specs.Samples.{recurses, reads_struct, writes_twice};
 
@@ -25,7 +26,7 @@ pub fn fuel_law()
         → FuelAtMost fuel (run_of_main g bound input fuel) }
 {}
 
-/// An end shows the statics of the program, each with a value for each of its cells.
+/// An end shows the statics of the program, each with as many values as it has cells.
 pub fn statics_law()
     ensures { (g : Setting) (input : List ℕ) (fuel : ℕ)
         → ShowsStatics g.prog.statics (meaning g input fuel) }

@@ -1,6 +1,8 @@
-ghost use Rattle.std.specs.Prelude.{◌≡◌, [], ◌∷◌, ◌≤◌, ◌+◌, ◌-◌, ℕ, length, map, reverse, IfOk, OnOk, MatchOption};
+ghost use Rattle.std.specs.Prelude.{◌≡◌, [], ◌∷◌, ◌≤◌, ◌+◌, ◌-◌, ℕ, length, map, reverse, IfOk};
+ghost use Rattle.std.specs.Prelude.{OnOk, MatchOption};
 ghost use Rattle.im_word.specs.Shown.{shown};
-ghost use Rattle.im_word.specs.Nesting.{fresh, level_behind, levels_behind, depth, role_at, IsFirstOver, NoneOver};
+ghost use Rattle.im_word.specs.Nesting.{fresh, level_behind, levels_behind, depth, role_at};
+ghost use Rattle.im_word.specs.Nesting.{IsFirstOver, NoneOver};
 ghost use Rattle.im_word.specs.Tally.{levels_of, IsTallied};
 
 use super::role::{Role, role_of_word};
