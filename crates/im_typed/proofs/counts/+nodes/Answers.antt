@@ -2,8 +2,8 @@ use Rattle.std.proofs.Common.{rules, ap}
 use Rattle.im_typed.proofs.RowCounts.{nodes_of, call-nodes}
 use Rattle.im_typed.proofs.counts.+nodes.Goals as goal
 
-pub count_behind-nodes-in-Call : goal.count_behind-nodes-in-Call
-count_behind-nodes-in-Call t c = λ types.
+pub count_behind-returns-in-Call-clause-nodes : goal.count_behind-returns-in-Call-clause-nodes
+count_behind-returns-in-Call-clause-nodes t c = λ types.
     let same = ap (nodes_of types) c.in-Call.is in
     let counted = call-nodes types c.in-Call.field-0 c.in-Call.arguments in
     let h = c.count_arguments.ensures types in

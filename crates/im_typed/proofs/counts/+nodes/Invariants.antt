@@ -9,8 +9,8 @@ abbrev pub invariant-count_arguments-loop-expression : goal.invariant-count_argu
 invariant-count_arguments-loop-expression l =
     (types : Table) → l.total ≡ min (sum_by (λ e. expr_nodes (expr_of types e)) (take l.expression-index l.expressions)) (2 ^ 64 - 1)
 
-abbrev pub invariant-count_expression-loop-rest : goal.invariant-count_expression-loop-rest
-invariant-count_expression-loop-rest l =
+abbrev pub invariant-count_expression-loop-operand : goal.invariant-count_expression-loop-operand
+invariant-count_expression-loop-operand l =
     ((types : Table) → min (l.total + expr_nodes (expr_of types l.rest)) (2 ^ 64 - 1)
     ≡ min (expr_nodes (expr_of types l.expression)) (2 ^ 64 - 1))
     × (size-Expr l.rest ≤ size-Expr l.expression)
