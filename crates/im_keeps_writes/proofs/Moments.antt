@@ -1,6 +1,6 @@
 -- What the run that never loses power doesn't write is at each moment of the others as it was loaded.
 use Rattle.std.proofs.Common.{◌≡◌, ◌≢◌, ℕ, zero, suc, ◌+◌, ◌<◌, ◌≤◌, inl, inr, Bool, true, false, List, [], ◌∷◌, Some, None, refl, sym, ap, ◌∙◌, arith}
-use Rattle.std.specs.Prelude.{◌-◌, ◌&&◌, ◌||◌, nat_le, nat_lt, unwrap_or}
+use Rattle.std.specs.Prelude.{◌-◌, ◌&&◌, ◌||◌, nat_le, nat_lt, unwrap_or, length}
 use Rattle.std.proofs.lemmas.Bool.{leb-true, and_parts}
 use Rattle.std.proofs.lemmas.Bool.Decides.{nat_tests}
 use Rattle.im_mem.specs.Memory.{Mem}
@@ -22,7 +22,7 @@ use Rattle.im_keeps.specs.Keeps.{IsInput}
 use Rattle.im_keeps_run.specs.Laws.{run_of}
 use Rattle.im_keeps_run.specs.Written.{IsWritten, code_end, IsLoaded, IsBegun}
 use Rattle.im_keeps_run.specs.WrittenLaws.{WrittenLaw}
-use Rattle.im_keeps_writes.specs.Writes.{is_word, is_in, is_stack, is_output, may_change, output_end, Writes}
+use Rattle.im_keeps_writes.specs.Writes.{is_word, is_setting, is_in, is_stack, is_output, may_change, output_end, Writes}
 use Rattle.im_keeps_writes.proofs.Fine.{IsFine}
 use Rattle.im_keeps_writes.proofs.Idle.{sound_run, agrees_at, byte_stays, live_stays, torn_keeps}
 use Rattle.im_keeps_writes.proofs.Appending.{like_appends}
@@ -70,6 +70,55 @@ code_stays : (image : ImageValue) → IsImage image → (a : ℕ) → 4096 ≤ a
 code_stays image is a low high =
     none_of (is_word a) (is_buffer a) (is_in image.objects a) (is_stack image a) (is_output image a) (no_word a low) (not_in_buffer a low)
     (below_objects _ 1048576 image.objects a is.objects high) (no_stack image a (leb-true _ _ (and_parts _ _ is.stack).1) high) (no_output image a high)
+
+-- the settings
+
+no_setting_word : (a : ℕ) → is_setting a ≡ true → is_word a ≡ false
+no_setting_word a h = grind (arith, nat_tests)
+
+setting_not_in_buffer : (a : ℕ) → is_setting a ≡ true → is_buffer a ≡ false
+setting_not_in_buffer a h = grind (arith, nat_tests)
+
+setting_low : (a : ℕ) → is_setting a ≡ true → a < 1048576
+setting_low a h = grind (arith, nat_tests)
+
+settings_stay : (image : ImageValue) → IsImage image → (a : ℕ) → is_setting a ≡ true → may_change image a ≡ false
+settings_stay image is a h =
+    none_of (is_word a) (is_buffer a) (is_in image.objects a) (is_stack image a) (is_output image a) (no_setting_word a h) (setting_not_in_buffer a h)
+    (below_objects _ 1048576 image.objects a is.objects high) (no_stack image a (leb-true _ _ (and_parts _ _ is.stack).1) high) (no_output image a high)
+  where
+    high : a < 1048576
+    high = setting_low a h
+
+-- the input, which stands behind the statics and the stack, and before the output
+
+above_objects : (statics least : ℕ) (os : List ObjectValue) (a : ℕ) → AreObjects statics least os → 1048576 + statics ≤ a → is_in os a ≡ false
+above_objects statics least [] a h high = refl
+above_objects statics least (o ∷ os) a h high =
+    let ends : o.at + o.size ≤ 1048576 + statics = leb-true _ _ (and_parts _ _ (and_parts _ _ (and_parts _ _ h.0.place).0).0).1 in
+    let here : (nat_le o.at a && nat_lt a (o.at + o.size)) ≡ false = behind o.at (o.at + o.size) (omega arith) in
+    ap (λ z. z || is_in os a) here ∙ above_objects statics (o.at + o.size + 1) os a h.1 high
+  where
+    behind : (from to : ℕ) → to ≤ a → (nat_le from a && nat_lt a to) ≡ false
+    behind from to more = grind (arith, nat_tests)
+
+behind_stack : (image : ImageValue) (a : ℕ) → 3145728 ≤ a → is_stack image a ≡ false
+behind_stack image a low = by (3145728 - image.stack)
+  where
+    by : (from : ℕ) → (nat_le from a && nat_lt a 3145728) ≡ false
+    by from = grind (arith, nat_tests)
+
+before_output : (image : ImageValue) (a : ℕ) → a < 4194304 → is_output image a ≡ false
+before_output image a high = by (4194304 + image.out_cap)
+  where
+    by : (end : ℕ) → (nat_le 4194304 a && nat_lt a end) ≡ false
+    by end = grind (arith, nat_tests)
+
+input_stays : (image : ImageValue) → IsImage image → (a : ℕ) → 3145728 ≤ a → a < 4194304 → may_change image a ≡ false
+input_stays image is a low high =
+    let few : length image.statics ≤ 1048576 = leb-true _ _ (and_parts _ _ is.statics_size).0 in
+    none_of (is_word a) (is_buffer a) (is_in image.objects a) (is_stack image a) (is_output image a) (no_word a (omega arith)) (not_in_buffer a (omega arith))
+    (above_objects _ 1048576 image.objects a is.objects (omega arith)) (behind_stack image a low) (before_output image a high)
 
 module _ (law : WrittenLaw) (image : ImageValue) (input : List ℕ) (written : IsWritten image) (fits : IsInput input) (safe : RunsSafely (run_of image input) (code_end image)) (shows : ShowsSafely (run_of image input)) (fine : (t : ℕ) → IsFine image (run_of image input t)) where
   abbrev r : ℕ → State
@@ -121,6 +170,8 @@ module _ (law : WrittenLaw) (image : ImageValue) (input : List ℕ) (written : I
   all = record {
     same = same;
     code = λ periods a low high. same periods a (code_stays image written.is_image a low high);
+    settings = λ periods a setting. same periods a (settings_stay image written.is_image a setting);
+    heard = λ periods a low high. same periods a (input_stays image written.is_image a low high);
     live = λ periods n junk on mask a l.
         let x : Moment = within periods n junk (memory_of image input) in
         let e = live_stays (memory_of image input) (code_end image) replayable periods n junk a on l in

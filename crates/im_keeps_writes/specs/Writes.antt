@@ -1,6 +1,6 @@
 -- Which memory a run of an image may change: no other byte is ever changed, wherever power fails.
-use Rattle.std.specs.Prelude.{◌≡◌, ◌≢◌, ◌<◌, ◌≤◌, ℕ, ◌+◌, ◌-◌, Bool, false, ◌&&◌, ◌||◌, nat_le, nat_lt, List, [], ◌∷◌, length}
-use Rattle.im_mem.specs.Map.{out_cap_at, in_pos_at, stack_lim_at, out_len1_at, out_sel_at, code_start, statics_start, stack_end, output_start}
+use Rattle.std.specs.Prelude.{◌≡◌, ◌≢◌, ◌<◌, ◌≤◌, ℕ, ◌+◌, ◌-◌, Bool, true, false, ◌&&◌, ◌||◌, nat_le, nat_lt, List, [], ◌∷◌, length}
+use Rattle.im_mem.specs.Map.{out_cap_at, in_pos_at, stack_lim_at, out_len1_at, out_sel_at, code_start, statics_start, stack_end, input_start, output_start}
 use Rattle.im_mem.specs.Memory.{Mem}
 use Rattle.im_rv.specs.declared.step.Went.TheVariants.{On}
 use Rattle.im_rv.specs.Runs.{step_of}
@@ -18,6 +18,10 @@ use Rattle.im_keeps.specs.Keeps.{device_after}
 -- IN_POS; OUT_LEN1 and the byte OUT_SEL. The settings OUT_CAP, IN_LEN and STACK_LIM are none of them
 abbrev pub is_word : ℕ → Bool
 is_word a = nat_lt a out_cap_at || (nat_le in_pos_at a && nat_lt a stack_lim_at) || (nat_le out_len1_at a && nat_le a out_sel_at)
+
+-- a byte of the settings OUT_CAP, IN_LEN and STACK_LIM
+abbrev pub is_setting : ℕ → Bool
+is_setting a = (nat_le out_cap_at a && nat_lt a in_pos_at) || (nat_le stack_lim_at a && nat_lt a out_len1_at)
 
 -- a byte of one of these objects
 abbrev pub is_in : List ObjectValue → ℕ → Bool
@@ -57,6 +61,10 @@ pub record Writes (image : ImageValue) (input : List ℕ) : Type 0 where
   pub same : (periods : List Period) (a : ℕ) → may_change image a ≡ false → (device_after image input periods).mem a ≡ memory_of image input a
   -- so are the code and all that lies between it and the statics
   pub code : (periods : List Period) (a : ℕ) → code_start ≤ a → a < statics_start → (device_after image input periods).mem a ≡ memory_of image input a
+  -- so are the settings
+  pub settings : (periods : List Period) (a : ℕ) → is_setting a ≡ true → (device_after image input periods).mem a ≡ memory_of image input a
+  -- so is the area of the input
+  pub heard : (periods : List Period) (a : ℕ) → input_start ≤ a → a < output_start → (device_after image input periods).mem a ≡ memory_of image input a
   -- of the register buffers the idle one alone is changed, at every moment with power on
   pub live : (periods : List Period) (n junk : ℕ) → (within periods n junk (memory_of image input)).went ≡ On → LeavesLive (within periods n junk (memory_of image input))
   -- output is stored at its end alone, at every moment with power on
