@@ -16,14 +16,6 @@ use Rattle.im_ctree_parts.proofs.Shapes.{member_shape, declarator_shape, paramet
 pub joined : (next inner : ℕ) (xs ys zs : List Name) → zs ≡ xs ++ ys → inner ≡ next + length xs → inner + length ys ≡ next + length zs
 joined next inner xs ys zs e f = omega (arith, ap length e, length-append xs ys, f)
 
--- one of two parts is counted, and the other one is left
-
-pub first_left : (done inner all : ℕ) (xs ys zs : List Name) → zs ≡ xs ++ ys → inner ≡ done + length ys → done + length zs ≡ all → inner + length xs ≡ all
-first_left done inner all xs ys zs e f g = omega (arith, ap length e, length-append xs ys, f, g)
-
-pub second_left : (done inner all : ℕ) (xs ys zs : List Name) → zs ≡ xs ++ ys → inner ≡ done + length xs → done + length zs ≡ all → inner + length ys ≡ all
-second_left done inner all xs ys zs e f g = omega (arith, ap length e, length-append xs ys, f, g)
-
 -- a part of one that has others behind it
 pub passing : {R : Type 0} (r : Result ℕ NoMemory) (next : ℕ) (xs : List Name) (whole others : R → List Name)
     → ((rest : R) → whole rest ≡ xs ++ others rest)

@@ -11,37 +11,9 @@ use crate::step::behind_one;
 use im_ctree::{Expression, ExpressionKind, TypeName};
 use im_num::NoMemory;
 
-/// The number of the next string literal behind an expression (C11 6.5). A loop goes down first
-/// operands and what is cast, so that chains of them take no stack; how many literals stand in an
-/// expression doesn't depend on the order in which its parts are counted.
+/// The number of the next string literal behind an expression (C11 6.5).
 #[cycle(strings)]
 pub fn behind_expression(next: u32, e: &Expression) -> Result<u32, NoMemory>
-    ensures { IfOk result (λ n. n ≡ next + length (strings_in (expression_in e.now))) }
-{
-    let mut done = next;
-    let mut rest = e;
-    loop {
-        match &rest.kind {
-            ExpressionKind::Cast(name, operand) => {
-                done = behind_type_name(done, name)?;
-                rest = operand;
-            }
-            ExpressionKind::Call(callee, arguments) => {
-                done = behind_expressions(done, arguments)?;
-                rest = callee;
-            }
-            ExpressionKind::Index(left, right) | ExpressionKind::Comma(left, right) => {
-                done = behind_expression(done, right)?;
-                rest = left;
-            }
-            _ => return behind_form(done, rest),
-        }
-    }
-}
-
-/// The number behind an expression whose operands are counted each for itself.
-#[cycle(strings)]
-fn behind_form(next: u32, e: &Expression) -> Result<u32, NoMemory>
     ensures { IfOk result (λ n. n ≡ next + length (strings_in (expression_in e.now))) }
 {
     match &e.kind {

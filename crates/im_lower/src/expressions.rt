@@ -7,7 +7,7 @@ use crate::builder::{Builder, Targets, next};
 use crate::copies::{groups_in, put_copy};
 use crate::lines::{put_change, put_increment, put_load, register_at, small};
 use crate::operators::{put_operator, put_truths};
-use crate::places::{behind, changed_kind, place_at, pointer_of, shape_of};
+use crate::places::{behind, changed_kind, place_at, shape_of};
 use im_block::{Exit, Line};
 use im_ctype::cells_of_struct;
 use im_num::NoMemory;
@@ -46,79 +46,19 @@ pub(crate) fn lower_place(
     ensures { OnOk result (code.new ≡ make_place (program_of prog.now) first
         (place_of prog.now.types place.now) free code.old) }
 {
-    match pointer_of(place) {
-        None => Ok(()),
-        Some(pointer) => lower_expression(code, pointer, free, next(free)?, prog, first),
+    match place {
+        Place::Static(_) | Place::Local(_) => Ok(()),
+        Place::Target(pointer) => {
+            lower_expression(code, pointer, free, next(free)?, prog, first)
+        }
+        Place::Member(whole, _) => lower_place(code, whole, free, prog, first),
     }
 }
 
 /// Puts the code of an expression, whose value goes into the register `to`. Registers from `free`
-/// on may be used. It recurs as deep as the tree is, which the rules of the language bound; a loop
-/// goes down what is converted, what stands in front of a comma, and what an element is one of, so
-/// that chains of them take no stack.
+/// on may be used. It recurs as deep as the tree is, which the rules of the language bound.
 #[cycle(expressions)]
 pub(crate) fn lower_expression(
-    code: &mut Builder,
-    expression: &Expr,
-    mut to: u32,
-    mut free: u32,
-    prog: &Prog,
-    first: u32,
-) -> Result<(), NoMemory>
-    ensures { OnOk result (code.new ≡ make (program_of prog.now) first
-        (expr_of prog.now.types expression.now) to free code.old) }
-{
-    let mut rest = expression;
-    loop {
-        match rest {
-            Expr::Convert(_, operand) => {
-                put_operator(code, rest, to, free)?;
-                rest = operand;
-                to = free;
-                free = next(free)?;
-            }
-            Expr::Discard(operand) => rest = operand,
-            Expr::Comma(left, right) => {
-                lower_expression(code, right, to, free, prog, first)?;
-                rest = left;
-                to = free;
-                free = next(free)?;
-            }
-            Expr::Move { pointer, by, .. } => {
-                put_operator(code, rest, to, free)?;
-                let above = next(free)?;
-                lower_expression(code, by, above, next(above)?, prog, first)?;
-                rest = pointer;
-                to = free;
-                free = above;
-            }
-            Expr::Read(access, place) => {
-                put_load(code, *access, to, place_at(place, free, first)?)?;
-                let Some(pointer) = pointer_of(place) else {
-                    return Ok(());
-                };
-                rest = pointer;
-                to = free;
-                free = next(free)?;
-            }
-            Expr::Address(place) => {
-                let at = place_at(place, free, first)?;
-                code.put(Line::Address { to, place: at })?;
-                let Some(pointer) = pointer_of(place) else {
-                    return Ok(());
-                };
-                rest = pointer;
-                to = free;
-                free = next(free)?;
-            }
-            _ => return lower_form(code, rest, to, free, prog, first),
-        }
-    }
-}
-
-/// Puts the code of an expression, that of its operands by calls.
-#[cycle(expressions)]
-fn lower_form(
     code: &mut Builder,
     expression: &Expr,
     to: u32,

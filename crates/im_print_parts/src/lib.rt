@@ -1,7 +1,6 @@
 //! From words, expressions, declarators and specifiers to their text.
 #![tactic(auto)]
 
-mod chains;
 mod commas;
 mod declarators;
 mod expressions;

@@ -35,8 +35,8 @@ declarator::behind_suffix-returns-in-Function t c =
     let told = λ (rest : tree.Suffixes). ap s.strings_of_suffixes (ap (λ k. with_suffix at k rest) c.in-Function.is ∙ function_suffix at ps rest) in
     passing c.behind_parameters.result c.args.next (s.strings_of_parameters (parameters_from ps.items)) (λ rest. s.strings_of_suffixes (with_suffix at c.args.suffix.now.kind rest)) s.strings_of_suffixes told behind
 
-pub expression::behind_form-returns-in_ok-inner-in-Call : goal.expression::behind_form-returns-in_ok-inner-in-Call
-expression::behind_form-returns-in_ok-inner-in-Call t c =
+pub expression::behind_expression-returns-in_ok-inner-in-Call : goal.expression::behind_expression-returns-in_ok-inner-in-Call
+expression::behind_expression-returns-in_ok-inner-in-Call t c =
     let at = c.args.e.now.at in
     let f = c.in-Call.callee in
     let es = c.in-Call.arguments in
