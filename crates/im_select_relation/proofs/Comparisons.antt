@@ -143,9 +143,15 @@ at_most_z (pos a) (negsuc (suc b)) = refl
 at_most_z (negsuc a) (negsuc zero) = ap not (none_below a)
 at_most_z (negsuc a) (negsuc (suc b)) = at_least a b
 
+below_top : (n above : ℕ) → n < 2 ^ 31 → sum_of n 1 ≡ above → above ≢ 2 ^ 31 → above < 2 ^ 31
+below_top n above low e ne = elim (below_or_not above (2 ^ 31)) [ inl x ↦ x | inr y ↦ absurd (ne (omega arith)) ]
+
+next_is : (n above : ℕ) → n < 2 ^ 32 → sum_of n 1 ≡ above → above ≢ 0 → suc n ≡ above
+next_is n above small e ne = elim (below_or_not (suc n) (2 ^ 32)) [ inl x ↦ omega arith | inr y ↦ absurd (ne (omega arith)) ]
+
 signed_above : (n above : ℕ) → n < 2 ^ 32 → sum_of n 1 ≡ above → above ≢ 2 ^ 31 → signed above ≡ next_z (signed n)
 signed_above n above small e ne = elim (below_or_not n (2 ^ 31)) [
-  | inl low ↦ signed_low above (omega arith) ∙ ap pos (let q : above ≡ suc n = omega arith in q) ∙ ap next_z (sym (signed_low n low))
+  | inl low ↦ signed_low above (below_top n above low e ne) ∙ ap pos (let q : above ≡ suc n = omega arith in q) ∙ ap next_z (sym (signed_low n low))
   | inr high ↦ elim (below_or_not (suc n) (2 ^ 32)) [
     | inl more ↦ (
         let up : 4294967296 - suc above ≡ 4294967296 - suc (suc n) = omega arith in
@@ -165,7 +171,7 @@ less_above k x n above small e = by (is_signed k)
   where
     by : (t : Bool) → above ≢ cond t (2 ^ 31) 0 → not (cond t (less_signed n x) (nat_lt n x)) ≡ cond t (less_signed x above) (nat_lt x above)
     by true ne = at_most_z (signed x) (signed n) ∙ ap (int_lt (signed x)) (sym (signed_above n above small e ne))
-    by false ne = let a = small in let b = e in let q : suc n ≡ above = omega arith in at_most x n ∙ ap (nat_lt x) q
+    by false ne = at_most x n ∙ ap (nat_lt x) (next_is n above small e ne)
 
 not_not : (b : Bool) → not (not b) ≡ b
 not_not true = refl
