@@ -35,6 +35,7 @@ use Rattle.im_select.specs.Leads.{led}
 use Rattle.im_select.specs.declared.branching.Test.{Test}
 use Rattle.im_select.specs.declared.distance.Distance.{Distance as Reach}
 use Rattle.im_select.specs.declared.distance.Distance.TheVariants.{Near, Far}
+use Rattle.im_select.specs.declared.folding.Constant.{Constant}
 use Rattle.im_select.specs.Emitted.{high_of, low_of, constant_by, constant_code, adds_by, adds_code, entry_label, labelled, call_code, cut_code, passed_by, way_code, lines_code, behind_each, leave_code, result_code, onward_code, test_line, test_code, test_or, taken_test, own_lines, is_next, branch_code, exit_code, is_empty, taking_code, block_code, others_below, laid_order, kept_order, Laying, leads_of, next_label, found_code, laid_block, laid_code, blocks_code, enter_code, prologue_code, function_code}
 use Rattle.im_select.specs.Places.{CallsBelow}
 use Rattle.im_select.proofs.Following.{LeadsOn, lead_path, lead_below, lead_entry, led_there, kept_first}
@@ -105,7 +106,7 @@ plain_one : (at : ℕ → ℕ) (x : CodeLine) (after : After) → IsPlain x → 
 plain_one at x after h = (plain_ranked at (x ∷ []) after (h, tt)).0
 
 -- a line has at most its words
-line_few : (places : Name → ℕ) (m : ℕ) (passed before : Option ℕ) (line : Line) → (IsCut line → ⊥) → length (way_code places m passed before line) ≤ with_cut line
+line_few : (places : Name → ℕ) (m : ℕ) (passed before : Option Constant) (line : Line) → (IsCut line → ⊥) → length (way_code places m passed before line) ≤ with_cut line
 line_few places m passed before (Cut cause) uncut = absurd (uncut tt)
 line_few places m passed before line uncut = let q = way_few places m passed before line (λ e. e) in omega arith
 
@@ -252,19 +253,19 @@ module _ (at : ℕ → ℕ) (places : Name → ℕ) (m : ℕ → ℕ → ℕ) (o
 
   -- ---- lines
 
-  starts : (n : ℕ → ℕ) (needed : ℕ → ℕ → Bool) (before : Option ℕ) (j : ℕ) (lines : List Line) (behind : After) → StartsWithCut lines → (scan at (lines_code places n needed before j lines) behind).next ≡ cut_rank
+  starts : (n : ℕ → ℕ) (needed : ℕ → ℕ → Bool) (before : Option Constant) (j : ℕ) (lines : List Line) (behind : After) → StartsWithCut lines → (scan at (lines_code places n needed before j lines) behind).next ≡ cut_rank
   starts n needed before j [] behind s = absurd s
   starts n needed before j (Cut cause ∷ lines) behind s = refl
   starts n needed before j (line ∷ lines) behind s = absurd s
 
-  work_most : (n : ℕ → ℕ) (needed : ℕ → ℕ → Bool) (passed before : Option ℕ) (j : ℕ) (line : Line) (lines : List Line) (rest : ℕ) (behind : After) → IsWork line → (IsCut line → ⊥) → (scan at (lines_code places n needed passed (suc j) lines) behind).next ≤ block_base + rest → (scan at (way_code places (n j) passed before line ++ lines_code places n needed passed (suc j) lines) behind).next ≤ block_base + (with_cut line + rest)
+  work_most : (n : ℕ → ℕ) (needed : ℕ → ℕ → Bool) (passed before : Option Constant) (j : ℕ) (line : Line) (lines : List Line) (rest : ℕ) (behind : After) → IsWork line → (IsCut line → ⊥) → (scan at (lines_code places n needed passed (suc j) lines) behind).next ≤ block_base + rest → (scan at (way_code places (n j) passed before line ++ lines_code places n needed passed (suc j) lines) behind).next ≤ block_base + (with_cut line + rest)
   work_most n needed passed before j line lines rest behind work uncut h =
       let e = ap (λ (z : After). z.next) (scan_append at (way_code places (n j) passed before line) (lines_code places n needed passed (suc j) lines) behind) in
       let p = plain_rank at (way_code places (n j) passed before line) (scan at (lines_code places n needed passed (suc j) lines) behind) (way_plain places (n j) passed before line work) in
       let few = line_few places (n j) passed before line uncut in
       omega arith
 
-  lines_most : (n : ℕ → ℕ) (needed : ℕ → ℕ → Bool) (before : Option ℕ) (j : ℕ) (lines tail : List Line) (exit : Exit) (behind : After) → behind.next ≤ block_base + cost_on left tail exit → All (CallsBelow functions) lines → (scan at (lines_code places n needed before j lines) behind).next ≤ block_base + cost_on left (lines ++ tail) exit
+  lines_most : (n : ℕ → ℕ) (needed : ℕ → ℕ → Bool) (before : Option Constant) (j : ℕ) (lines tail : List Line) (exit : Exit) (behind : After) → behind.next ≤ block_base + cost_on left tail exit → All (CallsBelow functions) lines → (scan at (lines_code places n needed before j lines) behind).next ≤ block_base + cost_on left (lines ++ tail) exit
   lines_most n needed before j [] tail exit behind h c = h
   lines_most n needed before j (Cut cause ∷ lines) tail exit behind h c = omega arith
   lines_most n needed before j (Call to i start given ∷ lines) tail exit behind h c = let e = callees.entries i (All-head (CallsBelow functions) (Call to i start given) lines c) in omega arith
@@ -274,7 +275,7 @@ module _ (at : ℕ → ℕ) (places : Name → ℕ) (m : ℕ → ℕ → ℕ) (o
       work_most n needed (passed_by (needed (suc j)) line lines) before j line lines (cost_on left (lines ++ tail) exit) behind tt (λ z. z)
       (lines_most n needed (passed_by (needed (suc j)) line lines) (suc j) lines tail exit behind h (All-tail (CallsBelow functions) line lines c))
 
-  lines_ranked : (n : ℕ → ℕ) (needed : ℕ → ℕ → Bool) (before : Option ℕ) (j : ℕ) (lines : List Line) (behind : After) → ((j : ℕ) → (4 ≤ n j) × (n j ≤ 31)) → CutAfterCalls lines → AreRanked at (lines_code places n needed before j lines) behind
+  lines_ranked : (n : ℕ → ℕ) (needed : ℕ → ℕ → Bool) (before : Option Constant) (j : ℕ) (lines : List Line) (behind : After) → ((j : ℕ) → (4 ≤ n j) × (n j ≤ 31)) → CutAfterCalls lines → AreRanked at (lines_code places n needed before j lines) behind
   lines_ranked n needed before j [] behind o k = tt
   lines_ranked n needed before j (Cut cause ∷ lines) behind o k = ranked_append at (cut_code (n j) cause) (lines_code places n needed None (suc j) lines) behind (cut_ranked (n j) cause (scan at (lines_code places n needed None (suc j) lines) behind) (o j)) (lines_ranked n needed None (suc j) lines behind o k)
   lines_ranked n needed before j (Call to i start given ∷ lines) behind o k =
@@ -290,7 +291,7 @@ module _ (at : ℕ → ℕ) (places : Name → ℕ) (m : ℕ → ℕ → ℕ) (o
       (jump_ranked 1 (service_label service) (scan at (lines_code places n needed None (suc j) lines) behind) (λ e. absurd (omega arith)) (service_high service) (λ e. (let s = starts n needed None (suc j) lines behind k.0 in omega arith)))
       (lines_ranked n needed None (suc j) lines behind o k.1)
   lines_ranked n needed before j (line ∷ lines) behind o k =
-      let passed : Option ℕ = passed_by (needed (suc j)) line lines in
+      let passed : Option Constant = passed_by (needed (suc j)) line lines in
       ranked_append at (way_code places (n j) passed before line) (lines_code places n needed passed (suc j) lines) behind (plain_ranked at (way_code places (n j) passed before line) (scan at (lines_code places n needed passed (suc j) lines) behind) (way_plain places (n j) passed before line tt)) (lines_ranked n needed passed (suc j) lines behind o k)
 
   -- ---- blocks
@@ -510,13 +511,13 @@ module _ (at : ℕ → ℕ) (places : Name → ℕ) (m : ℕ → ℕ → ℕ) (o
   exit_within top next bare taken (Return None) behind = ((λ jumps cut. absurd cc), leave_within top behind)
   exit_within top next bare taken (Return (Some r)) behind = leave_within top behind
 
-  lines_within : (top : ℕ) (n : ℕ → ℕ) (needed : ℕ → ℕ → Bool) (before : Option ℕ) (j : ℕ) (lines tail : List Line) (exit : Exit) (behind : After) → behind.next ≤ block_base + cost_on left tail exit → All (CallsBelow functions) lines → HasLittleLeft top (lines ++ tail) exit → AreWithin at top (lines_code places n needed before j lines) behind
+  lines_within : (top : ℕ) (n : ℕ → ℕ) (needed : ℕ → ℕ → Bool) (before : Option Constant) (j : ℕ) (lines tail : List Line) (exit : Exit) (behind : After) → behind.next ≤ block_base + cost_on left tail exit → All (CallsBelow functions) lines → HasLittleLeft top (lines ++ tail) exit → AreWithin at top (lines_code places n needed before j lines) behind
   lines_within top n needed before j [] tail exit behind h c little = tt
   lines_within top n needed before j (line ∷ lines) tail exit behind h c little =
       within_append at top (way_code places (n j) passed before line) (lines_code places n needed passed (suc j) lines) behind (one line little)
       (lines_within top n needed passed (suc j) lines tail exit behind h later (λ former cause rest e. little (line ∷ former) cause rest (ap (λ z. line ∷ z) e)))
     where
-      passed : Option ℕ
+      passed : Option Constant
       passed = passed_by (needed (suc j)) line lines
 
       later : All (CallsBelow functions) lines

@@ -5,12 +5,12 @@ use Rattle.std.proofs.lemmas.Option.{slice_get_cases, slice_get_within}
 use Rattle.im_num.specs.declared.kind.Kind.TheVariants.{I8, U8, I16, U16, I32, U32, Ptr}
 use Rattle.im_num.specs.Kinds.{word}
 use Rattle.im_rv.specs.declared.instr.Op.{Op}
-use Rattle.im_rv.specs.declared.instr.Op.TheVariants.{Jal}
+use Rattle.im_rv.specs.declared.instr.Op.TheVariants.{Jal, Sltiu, Sltu}
 use Rattle.im_rv.specs.declared.code.Line.{Line as RustLine}
 use Rattle.im_rv.specs.declared.code.Part.{Part}
 use Rattle.im_rv.specs.Decode.{Line as Instruction}
 use Rattle.im_rv.specs.Lines.{CodeLine, plain_line, code_line, code_lines}
-use Rattle.im_rv_reach.specs.Instructions.{upper}
+use Rattle.im_rv_reach.specs.Instructions.{with_immediate, on_registers, upper}
 use Rattle.im_gap.specs.declared.flow.Turn.TheVariants.{Passes, Jumps}
 use Rattle.im_gap.specs.Flow.{links_by}
 use Rattle.im_link.specs.Parts.{IsPart, lines_of}
@@ -19,6 +19,7 @@ use Rattle.im_ckpt.specs.Checkpoint.{checkpoint_code}
 use Rattle.im_rtlib.specs.Laws.{is_cut}
 use Rattle.im_rtlib.specs.Routines.{getchar, putchar, stack, exit}
 use Rattle.im_store.specs.declared.operators.UnaryOp.TheVariants.{Negate, Complement}
+use Rattle.im_store.specs.declared.operators.Comparison.{Comparison}
 use Rattle.im_store.specs.declared.operators.Comparison.TheVariants.{Less, Greater, LessOrEqual, GreaterOrEqual, Equal, NotEqual}
 use Rattle.im_store.specs.Objects.{Name, Slot}
 use Rattle.im_select_relation.specs.OperatorTables.{operation, less_op, load_op, store_op}
@@ -36,12 +37,13 @@ use Rattle.im_select.specs.Leads.{led}
 use Rattle.im_select.specs.declared.branching.Test.{Test}
 use Rattle.im_select.specs.declared.distance.Distance.{Distance as Reach}
 use Rattle.im_select.specs.declared.distance.Distance.TheVariants.{Near, Far}
-use Rattle.im_select.specs.Emitted.{high_of, low_of, constant_by, constant_code, displaced_by, displaced_code, adds_by, adds_code, place_number, place_code, moved_code, copied_code, step_op, shift_of, shifts_code, scaled_code, based_code, address_code, computed_code, immediate_line, passed_by, by_or, stored_from, way_code, line_code, lines_code, behind_each, onward_code, test_op, test_code, test_or, taken_test, own_lines, is_next, branch_code, exit_code, is_empty, result_code, leave_code, block_code, kept_order, Laying, leads_of, next_label, found_code, laid_block, laid_code, blocks_code, prologue_code, function_code, labelled, entry_label}
+use Rattle.im_select.specs.declared.folding.Constant.{Constant}
+use Rattle.im_select.specs.Emitted.{high_of, low_of, constant_by, constant_code, displaced_by, displaced_code, adds_by, adds_code, place_number, place_code, moved_code, copied_code, step_op, shift_of, shifts_code, scaled_code, based_code, address_code, computed_code, constant_line, comparison_line, compared_code, weighed_code, passed_by, by_or, stored_from, way_code, line_code, lines_code, behind_each, onward_code, test_op, test_code, test_or, taken_test, own_lines, is_next, branch_code, exit_code, is_empty, result_code, leave_code, block_code, kept_order, Laying, leads_of, next_label, found_code, laid_block, laid_code, blocks_code, prologue_code, function_code, labelled, entry_label}
 use Rattle.im_select.specs.Selects.{laying_of}
 use Rattle.im_link_laws.specs.Program.{HasCode, part_of, given_at, start_code, IsProgram}
 use Rattle.im_saved_code.specs.Scan.{way}
 use Rattle.im_saved_code.proofs.Scanning.{both}
-use Rattle.im_saved_code.proofs.Working.{immediate_way}
+use Rattle.im_saved_code.proofs.Working.{constant_way, comparison_way}
 use Rattle.im_saved_code.proofs.Plain.{operation_way, less_way, load_way, store_way, step_way}
 
 abbrev pub IsMarked : CodeLine → Type 0
@@ -189,22 +191,46 @@ line_marked at m (Call to i first count) = (refl, tt)
 line_marked at m (Serve to service None) = (refl, tt)
 line_marked at m (Serve to service (Some from)) = (refl, tt)
 
-way_marked : (at : Name → ℕ) (m : ℕ) (passed before : Option ℕ) (line : Line) → AreMarked (way_code at m passed before line)
-way_marked at m None before (Put to z) = constant_marked to (word z)
-way_marked at m (Some n) before (Put to z) = tt
-way_marked at m passed None (Compute to op kind left right) = line_marked at m (Compute to op kind left right)
-way_marked at m passed (Some n) (Compute to op kind left right) = by (immediate_line to op kind left n) refl
+weighed_marked : (to : ℕ) (op : Comparison) (n : ℕ) → AreMarked (weighed_code to op n)
+weighed_marked to Less n = tt
+weighed_marked to Greater n = (refl, tt)
+weighed_marked to LessOrEqual n = tt
+weighed_marked to GreaterOrEqual n = (refl, tt)
+weighed_marked to Equal n = by (n == 0)
   where
-    by : (o : Option Instruction) → immediate_line to op kind left n ≡ o → AreMarked (by_or (computed_code to op kind left right) o)
+    by : (b : Bool) → AreMarked (if b then [] else plain_line (with_immediate Sltiu to 5 1) ∷ [])
+    by true = tt
+    by false = (refl, tt)
+weighed_marked to NotEqual n = by (n == 0)
+  where
+    by : (b : Bool) → AreMarked (if b then [] else plain_line (on_registers Sltu to 0 5) ∷ [])
+    by true = tt
+    by false = (refl, tt)
+
+way_marked : (at : Name → ℕ) (m : ℕ) (passed before : Option Constant) (line : Line) → AreMarked (way_code at m passed before line)
+way_marked at m None before (Put to z) = constant_marked to (word z)
+way_marked at m (Some c) before (Put to z) = tt
+way_marked at m None before (PutNull to) = line_marked at m (PutNull to)
+way_marked at m (Some c) before (PutNull to) = tt
+way_marked at m passed None (Compute to op kind left right) = line_marked at m (Compute to op kind left right)
+way_marked at m passed (Some c) (Compute to op kind left right) = by (constant_line to op kind left right c) refl
+  where
+    by : (o : Option Instruction) → constant_line to op kind left right c ≡ o → AreMarked (by_or (computed_code to op kind left right) o [])
     by None e = line_marked at m (Compute to op kind left right)
-    by (Some l) e = (unlinked l.op l.rd (immediate_way to op kind left n l e), tt)
+    by (Some l) e = (unlinked l.op l.rd (constant_way to op kind left right c l e), tt)
+way_marked at m passed None (Compare to op kind left right) = line_marked at m (Compare to op kind left right)
+way_marked at m passed (Some c) (Compare to op kind left right) = by (comparison_line to op kind left right c) refl
+  where
+    by : (o : Option Instruction) → comparison_line to op kind left right c ≡ o → AreMarked (by_or (compared_code to (less_op kind) left right op) o (weighed_code to op c.word))
+    by None e = line_marked at m (Compare to op kind left right)
+    by (Some l) e = (unlinked l.op l.rd (comparison_way to op kind left right c l e), weighed_marked to op c.word)
 way_marked at m passed before (Write place kind from access) = line_marked at m (Write place kind (stored_from before from) access)
 way_marked at m passed before line = line_marked at m line
 
-lines_marked : (at : Name → ℕ) (m : ℕ → ℕ) (needed : ℕ → ℕ → Bool) (before : Option ℕ) (j : ℕ) (lines : List Line) → AreMarked (lines_code at m needed before j lines)
+lines_marked : (at : Name → ℕ) (m : ℕ → ℕ) (needed : ℕ → ℕ → Bool) (before : Option Constant) (j : ℕ) (lines : List Line) → AreMarked (lines_code at m needed before j lines)
 lines_marked at m needed before j [] = tt
 lines_marked at m needed before j (line ∷ lines) =
-    let passed : Option ℕ = passed_by (needed (suc j)) line lines in
+    let passed : Option Constant = passed_by (needed (suc j)) line lines in
     marked_append (way_code at (m j) passed before line) (lines_code at m needed passed (suc j) lines) (way_marked at (m j) passed before line) (lines_marked at m needed passed (suc j) lines)
 
 result_marked : (from : Option ℕ) → AreMarked (result_code from)

@@ -1,5 +1,5 @@
 -- Each line but a copy to itself has a word, and so have each block and each function's entry.
-use Rattle.std.proofs.Common.{◌≡◌, ◌<◌, ◌≤◌, inl, inr, ℕ, ℤ, zero, suc, ◌+◌, ◌*◌, ◌-◌, ◌/◌, ◌^◌, Bool, true, false, List, [], ◌∷◌, ◌++◌, Option, Some, None, length, take, max, refl, ap, ◌∙◌, arith, length-append}
+use Rattle.std.proofs.Common.{◌≡◌, ◌<◌, ◌≤◌, inl, inr, ℕ, zero, suc, ◌+◌, ◌*◌, ◌-◌, ◌/◌, ◌^◌, Bool, true, false, List, [], ◌∷◌, ◌++◌, Option, Some, None, length, take, max, refl, ap, ◌∙◌, arith, length-append}
 use Rattle.std.specs.Prelude.{◌==◌, ◌&&◌, if◌then◌else◌, slice_get}
 use Rattle.std.proofs.lemmas.Bool.Decides.{nat_tests}
 use Rattle.std.proofs.lemmas.List.{take_all}
@@ -10,7 +10,6 @@ use Rattle.im_num.specs.Kinds.{kind_size, word}
 use Rattle.im_rv.specs.declared.code.Part.{Part}
 use Rattle.im_rv.specs.Lines.{CodeLine, plain_line}
 use Rattle.im_rv_reach.specs.Instructions.{upper}
-use Rattle.im_store.specs.declared.operators.BinaryOp.{BinaryOp}
 use Rattle.im_store.specs.declared.operators.UnaryOp.{UnaryOp}
 use Rattle.im_store.specs.declared.operators.UnaryOp.TheVariants.{Negate, Complement}
 use Rattle.im_store.specs.declared.operators.Comparison.{Comparison}
@@ -28,15 +27,15 @@ use Rattle.im_block.specs.Shape.{sum_of}
 use Rattle.im_frame.specs.declared.layout.Layout.{Layout}
 use Rattle.im_select_relation.specs.Jumps.{jump_of, one_if, jumps_in, are_few}
 use Rattle.im_select.specs.Leads.{lead, led, kept}
+use Rattle.im_select.specs.declared.folding.Constant.{Constant}
 use Rattle.im_select.specs.declared.branching.Test.{Test}
 use Rattle.im_select.specs.declared.branching.Test.TheVariants.{Compares, ComparesZero}
 use Rattle.im_select.specs.declared.distance.Distance.{Distance as Reach}
 use Rattle.im_select.specs.declared.distance.Distance.TheVariants.{Near, Far}
-use Rattle.im_select.specs.Emitted.{constant_by, high_of, low_of, moved_code, copied_code, converted_code, unary_code, compared_code, scaled_code, place_code, displaced_code, place_number, based_code, address_code, word_taken, passed_by, line_code, lines_code, behind_each, adds_code, enter_code, onward_code, test_code, test_or, taken_test, own_lines, is_next, branch_code, exit_code, is_empty, ended_code, labelled, block_code, others_below, laid_order, kept_order, Laying, leads_of, next_label, found_code, laid_block, laid_code, blocks_code, prologue_code, function_code, entry_label}
+use Rattle.im_select.specs.Emitted.{constant_by, high_of, low_of, moved_code, copied_code, converted_code, unary_code, compared_code, scaled_code, place_code, displaced_code, place_number, based_code, address_code, passed_by, way_code, line_code, lines_code, behind_each, adds_code, enter_code, onward_code, test_code, test_or, taken_test, own_lines, is_next, branch_code, exit_code, is_empty, ended_code, labelled, block_code, others_below, laid_order, kept_order, Laying, leads_of, next_label, found_code, laid_block, laid_code, blocks_code, prologue_code, function_code, entry_label}
 use Rattle.im_select.specs.Selects.{laying_of}
 use Rattle.im_select.proofs.Following.{LeadsOn, lead_away}
-use Rattle.im_select.proofs.Pairing.{lines_alone, lines_paired, lines_stored, folds}
-use Rattle.im_select.proofs.Parts.{word_cases}
+use Rattle.im_select.proofs.Pairing.{lines_alone, last_passes, pass_cases, Takes, OnRight, OnLeft, Weighs, Stores, passes, lines_paired, right_code, left_code, weighs_code}
 use Rattle.im_select.proofs.Taking.{IsTaken, Nothing, Comparing, Zeroing, zero_line, takes}
 use Rattle.im_rv.specs.declared.instr.Op.{Op}
 use Rattle.im_select_relation.specs.OperatorTables.{less_op}
@@ -45,7 +44,7 @@ use Rattle.im_link.proofs.Joining.{first_whole}
 use Rattle.im_link_laws.specs.Program.{IsProgram, part_of, start_code, given_at}
 use Rattle.im_link_laws.proofs.Runtimes.{size_of}
 use Rattle.im_select_relation.specs.Law.{is_nothing}
-use Rattle.im_select_relation.specs.Selected.{or_zero}
+use Rattle.im_select_relation.specs.Selected.{IsConstant, ConstantNumber, ConstantNull, or_zero}
 use Rattle.im_select_executes.specs.Executing.{line_halves, words_by, block_words, jump_words, function_words}
 
 append_some : (xs : List CodeLine) (y : CodeLine) (ys : List CodeLine) → 0 < length (xs ++ y ∷ ys)
@@ -136,34 +135,33 @@ alone_some at m needed j line lines e r =
     let same = ap length (lines_alone at m needed j line lines e) in
     omega arith
 
-folded_some : (at : Name → ℕ) (m : ℕ → ℕ) (needed : ℕ → ℕ → Bool) (j r : ℕ) (z : ℤ) (to : ℕ) (op : BinaryOp) (kind : Kind) (left right : ℕ) (lines : List Line) (n : ℕ) → word_taken (needed (suc j)) r (word z) (Compute to op kind left right) ≡ Some n → sum_of line_halves lines ≤ 2 * length (lines_code at m needed None (suc (suc j)) lines) → sum_of line_halves (Put r z ∷ Compute to op kind left right ∷ lines) ≤ 2 * length (lines_code at m needed None j (Put r z ∷ Compute to op kind left right ∷ lines))
-folded_some at m needed j r z to op kind left right lines n e rest =
-    let d = folds (needed (suc j)) r (word z) to op kind left right n e in
-    let same = ap length (lines_paired at m needed j r z to op kind left right lines (word z) d.line (e ∙ ap Some d.same) d.is) in
-    omega arith
-
-stored_some : (at : Name → ℕ) (m : ℕ → ℕ) (needed : ℕ → ℕ → Bool) (j r : ℕ) (z : ℤ) (place : Place) (kind : Kind) (from access : ℕ) (lines : List Line) (n : ℕ) → word_taken (needed (suc j)) r (word z) (Write place kind from access) ≡ Some n → sum_of line_halves lines ≤ 2 * length (lines_code at m needed None (suc (suc j)) lines) → sum_of line_halves (Put r z ∷ Write place kind from access ∷ lines) ≤ 2 * length (lines_code at m needed None j (Put r z ∷ Write place kind from access ∷ lines))
-stored_some at m needed j r z place kind from access lines n e rest =
-    let zeroed : Line = Write place kind 0 access in
-    let some = line_some at (m (suc j)) zeroed in
-    let l = length-append (line_code at (m (suc j)) zeroed) (lines_code at m needed None (suc (suc j)) lines) in
-    let same = ap length (lines_stored at m needed j r z place kind from access lines n e) in
-    omega arith
-
 -- a constant that the next line takes is paid by that
+taker_some : (at : Name → ℕ) (m : ℕ) (lives : ℕ → Bool) (c : Constant) (user : Line) → Takes lives c user → line_halves user + 1 ≤ 2 * length (way_code at m None (Some c) user)
+taker_some at m lives c user (OnRight to op kind left l ne spent e) = let q = ap length (right_code to op kind left c l ne e) in omega arith
+taker_some at m lives c user (OnLeft to op kind right l ne spent turns e) = let q = ap length (left_code to op kind right c l ne turns e) in omega arith
+taker_some at m lives c user (Weighs to op kind left l ne spent e) = let q = ap length (weighs_code to op kind left c l ne e) in omega arith
+taker_some at m lives c user (Stores place kind access zero apart unread) = let q = line_some at m (Write place kind 0 access) in omega arith
+
+constant_halves : (line : Line) (r n : ℕ) → IsConstant line r n → line_halves line ≤ 1
+constant_halves line r n (ConstantNumber q k z e) = omega arith
+constant_halves line r n (ConstantNull q) = omega arith
+
+paired_some : (at : Name → ℕ) (m : ℕ → ℕ) (needed : ℕ → ℕ → Bool) (j : ℕ) (line user : Line) (lines : List Line) (c : Constant) → passed_by (needed (suc j)) line (user ∷ lines) ≡ Some c → sum_of line_halves lines ≤ 2 * length (lines_code at m needed None (suc (suc j)) lines) → sum_of line_halves (line ∷ user ∷ lines) ≤ 2 * length (lines_code at m needed None j (line ∷ user ∷ lines))
+paired_some at m needed j line user lines c e rest =
+    let d = passes (needed (suc j)) line user lines c e in
+    let first = constant_halves line c.register c.word d.constant in
+    let second = taker_some at (m (suc j)) (needed (suc j)) c user d.takes in
+    let l = length-append (way_code at (m (suc j)) None (Some c) user) (lines_code at m needed None (suc (suc j)) lines) in
+    let same = ap length (lines_paired at m needed j line user lines c e) in
+    omega arith
+
 lines_some : (at : Name → ℕ) (m : ℕ → ℕ) (needed : ℕ → ℕ → Bool) (j : ℕ) (lines : List Line) → sum_of line_halves lines ≤ 2 * length (lines_code at m needed None j lines)
 lines_some at m needed j [] = omega arith
-lines_some at m needed j (Put r z ∷ Compute to op kind left right ∷ lines) =
-    let user : Line = Compute to op kind left right in
-    word_cases (word_taken (needed (suc j)) r (word z) user)
-    (λ e. alone_some at m needed j (Put r z) (user ∷ lines) e (lines_some at m needed (suc j) (Compute to op kind left right ∷ lines)))
-    (λ n e. folded_some at m needed j r z to op kind left right lines n e (lines_some at m needed (suc (suc j)) lines))
-lines_some at m needed j (Put r z ∷ Write place kind from access ∷ lines) =
-    let user : Line = Write place kind from access in
-    word_cases (word_taken (needed (suc j)) r (word z) user)
-    (λ e. alone_some at m needed j (Put r z) (user ∷ lines) e (lines_some at m needed (suc j) (Write place kind from access ∷ lines)))
-    (λ n e. stored_some at m needed j r z place kind from access lines n e (lines_some at m needed (suc (suc j)) lines))
-lines_some at m needed j (line ∷ lines) = alone_some at m needed j line lines refl (lines_some at m needed (suc j) lines)
+lines_some at m needed j (line ∷ []) = alone_some at m needed j line [] (last_passes (needed (suc j)) line) (lines_some at m needed (suc j) [])
+lines_some at m needed j (line ∷ user ∷ lines) =
+    pass_cases (passed_by (needed (suc j)) line (user ∷ lines))
+    (λ e. alone_some at m needed j line (user ∷ lines) e (lines_some at m needed (suc j) (user ∷ lines)))
+    (λ c e. paired_some at m needed j line user lines c e (lines_some at m needed (suc (suc j)) lines))
 
 branch_some : (distance : Reach) (next : Option ℕ) (t : Test) (there other : ℕ) → 0 < length (branch_code distance next t there other)
 branch_some distance next t there other = by (is_next next there)

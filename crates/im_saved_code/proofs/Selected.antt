@@ -1,5 +1,5 @@
 -- The lines of a block, selected: what lives before them, and that they are sound.
-use Rattle.std.proofs.Common.{◌≡◌, ◌≢◌, ℕ, ℤ, suc, ◌+◌, ◌<◌, ◌≤◌, ◌⊎◌, inl, inr, Bool, true, false, cond, List, [], ◌∷◌, ◌++◌, Option, Some, None, refl, sym, ap, ◌∙◌, subst, arith}
+use Rattle.std.proofs.Common.{◌≡◌, ◌≢◌, ℕ, suc, ◌+◌, ◌<◌, ◌≤◌, ◌⊎◌, inl, inr, Bool, true, false, cond, List, [], ◌∷◌, ◌++◌, Option, Some, None, refl, sym, ap, ◌∙◌, subst, arith}
 use Rattle.std.specs.Prelude.{◌==◌, ◌&&◌, ◌||◌, not, nat_lt, nat_le, if◌then◌else◌, slice_get, All}
 use Rattle.std.proofs.lemmas.Bool.Decides.{nat_tests}
 use Rattle.std.proofs.lemmas.List.Elements.{All-head, All-tail}
@@ -10,12 +10,10 @@ use Rattle.im_rv.specs.declared.instr.Op.{Op}
 use Rattle.im_rv.specs.declared.instr.Op.TheVariants.{Jalr, Beq, Bne, Blt, Bge, Bltu, Bgeu, Lw}
 use Rattle.im_rv.specs.declared.format.Format.TheVariants.{Branch as OfBranches}
 use Rattle.im_rv.specs.Formats.{format_of}
-use Rattle.im_rv.specs.Decode.{Line as Instruction}
 use Rattle.im_rv.specs.Lines.{CodeLine, plain_line}
 use Rattle.im_rv_reach.specs.Instructions.{with_immediate, branching, jumping}
 use Rattle.im_gap.specs.declared.flow.Turn.TheVariants.{Branches}
 use Rattle.im_rtlib.specs.Routines.{service_label, aimed}
-use Rattle.im_store.specs.declared.operators.BinaryOp.{BinaryOp}
 use Rattle.im_store.specs.declared.operators.Comparison.{Comparison}
 use Rattle.im_store.specs.declared.operators.Comparison.TheVariants.{Less, Greater, LessOrEqual, GreaterOrEqual, Equal, NotEqual}
 use Rattle.im_store.specs.Objects.{Name}
@@ -35,22 +33,23 @@ use Rattle.im_alloc_placed.specs.Placed.{IsPlacedLine, IsPlacedExit}
 use Rattle.im_alloc_relation.specs.Live.{place_uses, uses, sets}
 use Rattle.im_live.specs.Reads.{reads, reads_stack, writes, exit_live, lives_before}
 use Rattle.im_live.proofs.Paths.{lives_more}
-use Rattle.im_select_relation.specs.Selected.{or_zero}
+use Rattle.im_select_relation.specs.Selected.{IsConstant, ConstantNumber, ConstantNull, or_zero}
 use Rattle.im_select.specs.Leads.{led}
+use Rattle.im_select.specs.declared.folding.Constant.{Constant}
 use Rattle.im_select.specs.declared.branching.Test.{Test}
 use Rattle.im_select.specs.declared.branching.Test.TheVariants.{Nonzero, Compares, ComparesZero}
 use Rattle.im_select.specs.declared.distance.Distance.{Distance as Reach}
 use Rattle.im_select.specs.declared.distance.Distance.TheVariants.{Near, Far}
-use Rattle.im_select.specs.Emitted.{entry_label, cut_code, result_code, call_code, word_taken, passed_by, line_code, lines_code, behind_each, adds_code, leave_code, onward_code, both_ways, test_op, test_code, test_or, taken_test, own_lines, is_next, branch_code, exit_code, is_empty, taking_code}
-use Rattle.im_select.proofs.Pairing.{lines_alone, lines_paired, lines_stored, Folds, folds, Zeroes, zeroes, IsImmediate, immediate_of}
+use Rattle.im_select.specs.Emitted.{entry_label, cut_code, result_code, call_code, passed_by, way_code, line_code, lines_code, behind_each, adds_code, leave_code, onward_code, both_ways, test_op, test_code, test_or, taken_test, own_lines, is_next, branch_code, exit_code, is_empty, taking_code}
+use Rattle.im_select.proofs.Pairing.{lines_alone, last_passes, pass_cases, Passes, passes, lines_paired, constant_small}
 use Rattle.im_select.proofs.Services.{service_low, service_high}
-use Rattle.im_select.proofs.Parts.{IsBehind, behind_tail, word_cases}
+use Rattle.im_select.proofs.Parts.{IsBehind, behind_tail}
 use Rattle.im_select.proofs.Taking.{IsTaken, Nothing, Comparing, Zeroing, zero_line, takes as parted, test_branches}
 use Rattle.im_saved_code.specs.Scan.{Goes, IsSoundLine, way, is_base, is_returned, After, onward, scan, AreSound}
 use Rattle.im_saved_code.specs.LinesLaws.{lives_inside, IsLow, HasEntries, HasBlocks, HoldsCalls, SavesFrom}
 use Rattle.im_saved_code.proofs.Scanning.{both, both_are, either, or_left, or_right, same_of, same_is, other_is, IsUnsaved, unsaved_not, unsaved_true, or_unsaved, scan_append, sound_append, Lives, First, Second, Later, line_lives, plain_sound, Wants, plain_wants}
 use Rattle.im_saved_code.proofs.Plain.{adds_plain, adds_wants}
-use Rattle.im_saved_code.proofs.Working.{immediate_way, work_plain, work_wants}
+use Rattle.im_saved_code.proofs.Working.{work_plain, work_wants, way_plain, Taken, taker_works, taker_writes, taker_spent, taker_wants}
 
 -- ---- the label of a service
 
@@ -492,70 +491,18 @@ module _ (functions : List Function) (statics first count frame : ℕ) (f : Func
   kept_before lines exit r = lives_more live by r (λ b e. kept b r e) lines exit
 
   -- a constant and the line that takes it
-  folded_before : (needed : ℕ → ℕ → Bool) (j x : ℕ) (z : ℤ) (to : ℕ) (op : BinaryOp) (kind : Kind) (left right : ℕ) (lines tail : List Line) (exit : Exit) (behind : After) (r n : ℕ) → word_taken (needed (suc j)) x (word z) (Compute to op kind left right) ≡ Some n → IsBehind by needed j ((Put x z ∷ Compute to op kind left right ∷ lines) ++ tail) exit → ((scan at (lines_code places m needed None (suc (suc j)) lines) behind).next r ≡ true → lives_before live (lines ++ tail) exit r ≡ true) → IsUnsaved r → (scan at (lines_code places m needed None j (Put x z ∷ Compute to op kind left right ∷ lines)) behind).next r ≡ true → lives_before live ((Put x z ∷ Compute to op kind left right ∷ lines) ++ tail) exit r ≡ true
-  folded_before needed j x z to op kind left right lines tail exit behind r n e is later u w =
-      cases (plain_wants at (plain_line (with_immediate i.by to left i.imm) ∷ []) rest r ((ap (λ (l : Instruction). way l.op) (sym i.line) ∙ immediate_way to op kind left (word z) d.line d.is, refl), tt) u there)
+  constant_before : (line user : Line) (lines : List Line) (exit : Exit) (x n r : ℕ) → IsConstant line x n → r ≢ x → lives_before live (user ∷ lines) exit r ≡ true → lives_before live (line ∷ user ∷ lines) exit r ≡ true
+  constant_before line user lines exit x n r (ConstantNumber q k z e) ne a = both_are (not (r == x)) (lives_before live (user ∷ lines) exit r) (ap not (other_is r x ne)) a
+  constant_before line user lines exit x n r (ConstantNull q) ne a = both_are (not (r == x)) (lives_before live (user ∷ lines) exit r) (ap not (other_is r x ne)) a
+
+  paired_before : (needed : ℕ → ℕ → Bool) (j : ℕ) (line user : Line) (lines tail : List Line) (exit : Exit) (behind : After) (r : ℕ) (c : Constant) → passed_by (needed (suc j)) line (user ∷ lines) ≡ Some c → IsBehind by needed j ((line ∷ user ∷ lines) ++ tail) exit → ((scan at (lines_code places m needed None (suc (suc j)) lines) behind).next r ≡ true → lives_before live (lines ++ tail) exit r ≡ true) → IsUnsaved r → (scan at (lines_code places m needed None j (line ∷ user ∷ lines)) behind).next r ≡ true → lives_before live ((line ∷ user ∷ lines) ++ tail) exit r ≡ true
+  paired_before needed j line user lines tail exit behind r c e is later u w = cases (taker_wants places (m (suc j)) (needed (suc j)) c user (constant_small line c.register c.word d.constant) d.takes (rest.next r ≡ true) r u wants)
     where
-      user : Line
-      user = Compute to op kind left right
-
-      d : Folds (needed (suc j)) x (word z) to op kind left right n
-      d = folds (needed (suc j)) x (word z) to op kind left right n e
-
-      i : IsImmediate to op kind left z d.line
-      i = immediate_of to op kind left z d.line d.is
-
-      rest : After
-      rest = scan at (lines_code places m needed None (suc (suc j)) lines) behind
-
-      there : (scan at (plain_line (with_immediate i.by to left i.imm) ∷ []) rest).next r ≡ true
-      there =
-          sym (ap (λ (c : List CodeLine). (scan at c behind).next r)
-          (lines_paired places m needed j x z to op kind left right lines (word z) d.line (e ∙ ap Some d.same) d.is
-          ∙ ap (λ (l : Instruction). plain_line l ∷ lines_code places m needed None (suc (suc j)) lines) i.line))
-          ∙ w
-
-      remains : Bool
-      remains = not (writes user r) && lives_before live (lines ++ tail) exit r
-
-      -- a register that isn't the constant's
-      found : r ≢ x → (reads user r || remains) ≡ true → lives_before live ((Put x z ∷ user ∷ lines) ++ tail) exit r ≡ true
-      found ne a = both_are (not (r == x)) (reads user r || remains) (ap not (other_is r x ne)) a
-
-      spent : lives_before live (lines ++ tail) exit r ≡ true → r ≢ to → r ≢ x
-      spent l ne q = elim d.spent [
-        | inl s ↦ ne (q ∙ s)
-        | inr s ↦
-            (let k : 1 + j ≡ suc j = omega arith in
-            let dead : lives_before by (lines ++ tail) exit x ≡ false = sym (is 1 x) ∙ ap (λ b. needed b x) k ∙ s in
-            let lives : lives_before by (lines ++ tail) exit x ≡ true = ap (lives_before by (lines ++ tail) exit) (sym q) ∙ kept_before (lines ++ tail) exit r l in
-            let bad : true ≡ false = sym lives ∙ dead in
-            cc)
-      ]
-
-      cases : (r ≡ left) ⊎ (r ≡ 0) ⊎ ((r ≢ to) × (rest.next r ≡ true)) → lives_before live ((Put x z ∷ user ∷ lines) ++ tail) exit r ≡ true
-      cases (inl a) = found (λ q. d.apart (sym a ∙ q)) (or_left (reads user r) remains (or_left (r == left || r == right) false (or_left (r == left) (r == right) (same_is r left a))))
-      cases (inr (inl a)) = absurd (unsaved_not r 0 u refl a)
-      cases (inr (inr c)) =
-          let l = later c.1 in
-          found (spent l c.0) (or_right (reads user r) remains (both_are (not (r == to)) (lives_before live (lines ++ tail) exit r) (ap not (other_is r to c.0)) l))
-
-  -- a zero and the line that stores it
-  stored_before : (needed : ℕ → ℕ → Bool) (j x : ℕ) (z : ℤ) (place : Place) (kind : Kind) (from access : ℕ) (lines tail : List Line) (exit : Exit) (behind : After) (r n : ℕ) → word_taken (needed (suc j)) x (word z) (Write place kind from access) ≡ Some n → IsBehind by needed j ((Put x z ∷ Write place kind from access ∷ lines) ++ tail) exit → ((scan at (lines_code places m needed None (suc (suc j)) lines) behind).next r ≡ true → lives_before live (lines ++ tail) exit r ≡ true) → IsUnsaved r → (scan at (lines_code places m needed None j (Put x z ∷ Write place kind from access ∷ lines)) behind).next r ≡ true → lives_before live ((Put x z ∷ Write place kind from access ∷ lines) ++ tail) exit r ≡ true
-  stored_before needed j x z place kind from access lines tail exit behind r n e is later u w =
-      cases (work_before zeroed rest r (λ q. refl) (work_wants places (m (suc j)) zeroed tt (rest.next r ≡ true) r u (plain_wants at head rest r (work_plain places (m (suc j)) zeroed tt) u there)))
-    where
-      user : Line
-      user = Write place kind from access
-
-      zeroed : Line
-      zeroed = Write place kind 0 access
-
-      d : Zeroes (needed (suc j)) x (word z) place from
-      d = zeroes (needed (suc j)) x (word z) place kind from access n e
+      d : Passes (needed (suc j)) line user c
+      d = passes (needed (suc j)) line user lines c e
 
       head : List CodeLine
-      head = line_code places (m (suc j)) zeroed
+      head = way_code places (m (suc j)) None (Some c) user
 
       ahead : List CodeLine
       ahead = lines_code places m needed None (suc (suc j)) lines
@@ -564,61 +511,48 @@ module _ (functions : List Function) (statics first count frame : ℕ) (f : Func
       rest = scan at ahead behind
 
       there : (scan at head rest).next r ≡ true
-      there = sym (ap (λ (k : After). k.next r) (ap (λ (c : List CodeLine). scan at c behind) (lines_stored places m needed j x z place kind from access lines n e) ∙ scan_append at head ahead behind)) ∙ w
+      there = sym (ap (λ (k : After). k.next r) (ap (λ (z : List CodeLine). scan at z behind) (lines_paired places m needed j line user lines c e) ∙ scan_append at head ahead behind)) ∙ w
+
+      wants : Wants head (rest.next r ≡ true) r
+      wants = plain_wants at head rest r (way_plain places (m (suc j)) None (Some c) user (taker_works (needed (suc j)) c user d.takes)) u there
 
       remains : Bool
       remains = not (writes user r) && lives_before live (lines ++ tail) exit r
 
-      -- a register that isn't the zero's
-      found : r ≢ x → (reads user r || remains) ≡ true → lives_before live ((Put x z ∷ user ∷ lines) ++ tail) exit r ≡ true
-      found ne a = both_are (not (r == x)) (reads user r || remains) (ap not (other_is r x ne)) a
+      -- a register that isn't the constant's
+      found : r ≢ c.register → (reads user r || remains) ≡ true → lives_before live ((line ∷ user ∷ lines) ++ tail) exit r ≡ true
+      found ne a = constant_before line user (lines ++ tail) exit c.register c.word r d.constant ne a
 
-      named : place_uses place r ≡ true → lives_before live ((Put x z ∷ user ∷ lines) ++ tail) exit r ≡ true
-      named a =
-          found (λ q. let bad : true ≡ false = sym a ∙ ap (place_uses place) q ∙ d.apart in cc)
-          (or_left (reads user r) remains (or_left (place_uses place r || r == from) (reads_stack user && r == 2) (or_left (place_uses place r) (r == from) a)))
-
-      unread : lives_before live (lines ++ tail) exit r ≡ true → r ≢ x
-      unread l q =
+      unread : lives_before live (lines ++ tail) exit r ≡ true → sets user r ≡ false → r ≢ c.register
+      unread l other q =
           let k : 1 + j ≡ suc j = omega arith in
-          let dead : lives_before by (lines ++ tail) exit x ≡ false = sym (is 1 x) ∙ ap (λ b. needed b x) k ∙ d.unread in
-          let lives : lives_before by (lines ++ tail) exit x ≡ true = ap (lives_before by (lines ++ tail) exit) (sym q) ∙ kept_before (lines ++ tail) exit r l in
+          let dead : lives_before by (lines ++ tail) exit c.register ≡ false = sym (is 1 c.register) ∙ ap (λ b. needed b c.register) k ∙ taker_spent (needed (suc j)) c user r d.takes other q in
+          let lives : lives_before by (lines ++ tail) exit c.register ≡ true = ap (lives_before by (lines ++ tail) exit) (sym q) ∙ kept_before (lines ++ tail) exit r l in
           let bad : true ≡ false = sym lives ∙ dead in
           cc
 
-      cases : Before zeroed rest r → lives_before live ((Put x z ∷ user ∷ lines) ++ tail) exit r ≡ true
-      cases (inl a) = elim (either (place_uses place r || r == 0) (reads_stack zeroed && r == 2) a) [
-        | inl b ↦ elim (either (place_uses place r) (r == 0) b) [ inl c ↦ named c | inr c ↦ absurd (unsaved_not r 0 u refl (same_of r 0 c)) ]
-        | inr b ↦ absurd (unsaved_not r 2 u refl (same_of r 2 (both (reads_stack zeroed) (r == 2) b).1))
-      ]
-      cases (inr c) = let l = later c.1 in found (unread l) (or_right (reads user r) remains l)
+      cases : Taken (rest.next r ≡ true) r c.register user → lives_before live ((line ∷ user ∷ lines) ++ tail) exit r ≡ true
+      cases (inl a) = found a.1 (or_left (reads user r) remains (or_left (uses user r) (reads_stack user && r == 2) a.0))
+      cases (inr b) =
+          let l = later b.1 in
+          let unset : writes user r ≡ false = taker_writes (needed (suc j)) c user r d.takes ∙ b.0 in
+          found (unread l b.0) (or_right (reads user r) remains (both_are (not (writes user r)) (lives_before live (lines ++ tail) exit r) (ap not unset) l))
 
   pub lines_before : (needed : ℕ → ℕ → Bool) (j : ℕ) (lines tail : List Line) (exit : Exit) (behind : After) (r : ℕ) → IsBehind by needed j (lines ++ tail) exit → ((s : ℕ) → IsUnsaved s → behind.next s ≡ true → lives_before live tail exit s ≡ true) → All (IsPlacedLine statics f) (lines ++ tail) → All (LineThere functions) (lines ++ tail) → IsUnsaved r → (scan at (lines_code places m needed None j lines) behind).next r ≡ true → lives_before live (lines ++ tail) exit r ≡ true
   lines_before needed j [] tail exit behind r is k h t u w = k r u w
-  lines_before needed j (Put x z ∷ Compute to op kind left right ∷ lines) tail exit behind r is k h t u w =
-      let user : Line = Compute to op kind left right in
-      let is' = behind_tail by needed j (Put x z) (user ∷ (lines ++ tail)) exit is in
-      let h' = All-tail (IsPlacedLine statics f) (Put x z) (user ∷ (lines ++ tail)) h in
-      let t' = All-tail (LineThere functions) (Put x z) (user ∷ (lines ++ tail)) t in
-      word_cases (word_taken (needed (suc j)) x (word z) user)
-      (λ e. alone_before needed j (Put x z) (user ∷ lines) tail exit behind r e (λ v. lines_before needed (suc j) (Compute to op kind left right ∷ lines) tail exit behind r is' k h' t' u v)
-      (All-head (IsPlacedLine statics f) (Put x z) (user ∷ (lines ++ tail)) h) (All-head (LineThere functions) (Put x z) (user ∷ (lines ++ tail)) t) u w)
-      (λ n e. folded_before needed j x z to op kind left right lines tail exit behind r n e is
+  lines_before needed j (line ∷ []) tail exit behind r is k h t u w =
+      alone_before needed j line [] tail exit behind r (last_passes (needed (suc j)) line)
+      (λ v. lines_before needed (suc j) [] tail exit behind r (behind_tail by needed j line tail exit is) k (All-tail (IsPlacedLine statics f) line tail h) (All-tail (LineThere functions) line tail t) u v)
+      (All-head (IsPlacedLine statics f) line tail h) (All-head (LineThere functions) line tail t) u w
+  lines_before needed j (line ∷ user ∷ lines) tail exit behind r is k h t u w =
+      let is' = behind_tail by needed j line (user ∷ (lines ++ tail)) exit is in
+      let h' = All-tail (IsPlacedLine statics f) line (user ∷ (lines ++ tail)) h in
+      let t' = All-tail (LineThere functions) line (user ∷ (lines ++ tail)) t in
+      pass_cases (passed_by (needed (suc j)) line (user ∷ lines))
+      (λ e. alone_before needed j line (user ∷ lines) tail exit behind r e (λ v. lines_before needed (suc j) (user ∷ lines) tail exit behind r is' k h' t' u v)
+      (All-head (IsPlacedLine statics f) line (user ∷ (lines ++ tail)) h) (All-head (LineThere functions) line (user ∷ (lines ++ tail)) t) u w)
+      (λ c e. paired_before needed j line user lines tail exit behind r c e is
       (λ v. lines_before needed (suc (suc j)) lines tail exit behind r (behind_tail by needed (suc j) user (lines ++ tail) exit is') k (All-tail (IsPlacedLine statics f) user (lines ++ tail) h') (All-tail (LineThere functions) user (lines ++ tail) t') u v) u w)
-  lines_before needed j (Put x z ∷ Write place kind from access ∷ lines) tail exit behind r is k h t u w =
-      let user : Line = Write place kind from access in
-      let is' = behind_tail by needed j (Put x z) (user ∷ (lines ++ tail)) exit is in
-      let h' = All-tail (IsPlacedLine statics f) (Put x z) (user ∷ (lines ++ tail)) h in
-      let t' = All-tail (LineThere functions) (Put x z) (user ∷ (lines ++ tail)) t in
-      word_cases (word_taken (needed (suc j)) x (word z) user)
-      (λ e. alone_before needed j (Put x z) (user ∷ lines) tail exit behind r e (λ v. lines_before needed (suc j) (Write place kind from access ∷ lines) tail exit behind r is' k h' t' u v)
-      (All-head (IsPlacedLine statics f) (Put x z) (user ∷ (lines ++ tail)) h) (All-head (LineThere functions) (Put x z) (user ∷ (lines ++ tail)) t) u w)
-      (λ n e. stored_before needed j x z place kind from access lines tail exit behind r n e is
-      (λ v. lines_before needed (suc (suc j)) lines tail exit behind r (behind_tail by needed (suc j) user (lines ++ tail) exit is') k (All-tail (IsPlacedLine statics f) user (lines ++ tail) h') (All-tail (LineThere functions) user (lines ++ tail) t') u v) u w)
-  lines_before needed j (line ∷ lines) tail exit behind r is k h t u w =
-      alone_before needed j line lines tail exit behind r refl
-      (λ v. lines_before needed (suc j) lines tail exit behind r (behind_tail by needed j line (lines ++ tail) exit is) k (All-tail (IsPlacedLine statics f) line (lines ++ tail) h) (All-tail (LineThere functions) line (lines ++ tail) t) u v)
-      (All-head (IsPlacedLine statics f) line (lines ++ tail) h) (All-head (LineThere functions) line (lines ++ tail) t) u w
 
   abbrev Saves : ℕ → List Line → Exit → Type 0
   Saves n rest exit = (4 ≤ n) × (n ≤ 31) × ((r : ℕ) → lives_before live rest exit r ≡ true → r ≤ n)
@@ -649,50 +583,33 @@ module _ (functions : List Function) (statics first count frame : ℕ) (f : Func
       subst (λ (z : List CodeLine). AreSound at z behind) (sym (lines_alone places m needed j line lines e))
       (sound_append at (line_code places (m j) line) (lines_code places m needed None (suc j) lines) behind one rest)
 
-  folded_sound : (needed : ℕ → ℕ → Bool) (j x : ℕ) (z : ℤ) (to : ℕ) (op : BinaryOp) (kind : Kind) (left right : ℕ) (lines : List Line) (behind : After) (n : ℕ) → word_taken (needed (suc j)) x (word z) (Compute to op kind left right) ≡ Some n → AreSound at (lines_code places m needed None (suc (suc j)) lines) behind → AreSound at (lines_code places m needed None j (Put x z ∷ Compute to op kind left right ∷ lines)) behind
-  folded_sound needed j x z to op kind left right lines behind n e rest =
-      let d = folds (needed (suc j)) x (word z) to op kind left right n e in
-      subst (λ (c : List CodeLine). AreSound at c behind) (sym (lines_paired places m needed j x z to op kind left right lines (word z) d.line (e ∙ ap Some d.same) d.is))
-      ((plain_sound at (plain_line d.line ∷ []) (scan at (lines_code places m needed None (suc (suc j)) lines) behind) ((immediate_way to op kind left (word z) d.line d.is, refl), tt)).0, rest)
-
-  stored_sound : (needed : ℕ → ℕ → Bool) (j x : ℕ) (z : ℤ) (place : Place) (kind : Kind) (from access : ℕ) (lines : List Line) (behind : After) (n : ℕ) → word_taken (needed (suc j)) x (word z) (Write place kind from access) ≡ Some n → AreSound at (lines_code places m needed None (suc (suc j)) lines) behind → AreSound at (lines_code places m needed None j (Put x z ∷ Write place kind from access ∷ lines)) behind
-  stored_sound needed j x z place kind from access lines behind n e rest =
-      let head : List CodeLine = line_code places (m (suc j)) (Write place kind 0 access) in
+  paired_sound : (needed : ℕ → ℕ → Bool) (j : ℕ) (line user : Line) (lines : List Line) (behind : After) (c : Constant) → passed_by (needed (suc j)) line (user ∷ lines) ≡ Some c → AreSound at (lines_code places m needed None (suc (suc j)) lines) behind → AreSound at (lines_code places m needed None j (line ∷ user ∷ lines)) behind
+  paired_sound needed j line user lines behind c e rest =
+      let d = passes (needed (suc j)) line user lines c e in
+      let head : List CodeLine = way_code places (m (suc j)) None (Some c) user in
       let ahead : List CodeLine = lines_code places m needed None (suc (suc j)) lines in
-      subst (λ (c : List CodeLine). AreSound at c behind) (sym (lines_stored places m needed j x z place kind from access lines n e))
-      (sound_append at head ahead behind (plain_sound at head (scan at ahead behind) (work_plain places (m (suc j)) (Write place kind 0 access) tt)) rest)
+      subst (λ (z : List CodeLine). AreSound at z behind) (sym (lines_paired places m needed j line user lines c e))
+      (sound_append at head ahead behind (plain_sound at head (scan at ahead behind) (way_plain places (m (suc j)) None (Some c) user (taker_works (needed (suc j)) c user d.takes))) rest)
 
   pub lines_sound : (needed : ℕ → ℕ → Bool) (j : ℕ) (lines tail : List Line) (exit : Exit) (behind : After) → IsBehind by needed j (lines ++ tail) exit → ((s : ℕ) → IsUnsaved s → behind.next s ≡ true → lives_before live tail exit s ≡ true) → All (IsPlacedLine statics f) (lines ++ tail) → IsPlacedExit exit → All (LineThere functions) (lines ++ tail) → HoldsCalls live (lines ++ tail) exit → SavesFrom live m j (lines ++ tail) exit → AreSound at (lines_code places m needed None j lines) behind
   lines_sound needed j [] tail exit behind is k h e t s v = tt
-  lines_sound needed j (Put x z ∷ Compute to op kind left right ∷ lines) tail exit behind is k h e t s v =
-      let user : Line = Compute to op kind left right in
-      let is' = behind_tail by needed j (Put x z) (user ∷ (lines ++ tail)) exit is in
-      let h' = All-tail (IsPlacedLine statics f) (Put x z) (user ∷ (lines ++ tail)) h in
-      let t' = All-tail (LineThere functions) (Put x z) (user ∷ (lines ++ tail)) t in
-      word_cases (word_taken (needed (suc j)) x (word z) user)
-      (λ a. alone_sound needed j (Put x z) (user ∷ lines) behind a
-      (plain_sound at (line_code places (m j) (Put x z)) (scan at (lines_code places m needed None (suc j) (user ∷ lines)) behind) (work_plain places (m j) (Put x z) tt))
-      (lines_sound needed (suc j) (Compute to op kind left right ∷ lines) tail exit behind is' k h' e t' s.1 v.1))
-      (λ n a. folded_sound needed j x z to op kind left right lines behind n a
+  lines_sound needed j (line ∷ []) tail exit behind is k h e t s v =
+      let is' = behind_tail by needed j line tail exit is in
+      let h' = All-tail (IsPlacedLine statics f) line tail h in
+      let t' = All-tail (LineThere functions) line tail t in
+      alone_sound needed j line [] behind (last_passes (needed (suc j)) line)
+      (line_sound (m j) line tail exit (scan at (lines_code places m needed None (suc j) []) behind) (λ r u w. lines_before needed (suc j) [] tail exit behind r is' k h' t' u w) (λ r w. lives_home statics f live tail exit r homes h' e w) s v.0)
+      (lines_sound needed (suc j) [] tail exit behind is' k h' e t' s.1 v.1)
+  lines_sound needed j (line ∷ user ∷ lines) tail exit behind is k h e t s v =
+      let is' = behind_tail by needed j line (user ∷ (lines ++ tail)) exit is in
+      let h' = All-tail (IsPlacedLine statics f) line (user ∷ (lines ++ tail)) h in
+      let t' = All-tail (LineThere functions) line (user ∷ (lines ++ tail)) t in
+      pass_cases (passed_by (needed (suc j)) line (user ∷ lines))
+      (λ a. alone_sound needed j line (user ∷ lines) behind a
+      (line_sound (m j) line (user ∷ (lines ++ tail)) exit (scan at (lines_code places m needed None (suc j) (user ∷ lines)) behind) (λ r u w. lines_before needed (suc j) (user ∷ lines) tail exit behind r is' k h' t' u w) (λ r w. lives_home statics f live (user ∷ (lines ++ tail)) exit r homes h' e w) s v.0)
+      (lines_sound needed (suc j) (user ∷ lines) tail exit behind is' k h' e t' s.1 v.1))
+      (λ c a. paired_sound needed j line user lines behind c a
       (lines_sound needed (suc (suc j)) lines tail exit behind (behind_tail by needed (suc j) user (lines ++ tail) exit is') k (All-tail (IsPlacedLine statics f) user (lines ++ tail) h') e (All-tail (LineThere functions) user (lines ++ tail) t') s.1.1 v.1.1))
-  lines_sound needed j (Put x z ∷ Write place kind from access ∷ lines) tail exit behind is k h e t s v =
-      let user : Line = Write place kind from access in
-      let is' = behind_tail by needed j (Put x z) (user ∷ (lines ++ tail)) exit is in
-      let h' = All-tail (IsPlacedLine statics f) (Put x z) (user ∷ (lines ++ tail)) h in
-      let t' = All-tail (LineThere functions) (Put x z) (user ∷ (lines ++ tail)) t in
-      word_cases (word_taken (needed (suc j)) x (word z) user)
-      (λ a. alone_sound needed j (Put x z) (user ∷ lines) behind a
-      (plain_sound at (line_code places (m j) (Put x z)) (scan at (lines_code places m needed None (suc j) (user ∷ lines)) behind) (work_plain places (m j) (Put x z) tt))
-      (lines_sound needed (suc j) (Write place kind from access ∷ lines) tail exit behind is' k h' e t' s.1 v.1))
-      (λ n a. stored_sound needed j x z place kind from access lines behind n a
-      (lines_sound needed (suc (suc j)) lines tail exit behind (behind_tail by needed (suc j) user (lines ++ tail) exit is') k (All-tail (IsPlacedLine statics f) user (lines ++ tail) h') e (All-tail (LineThere functions) user (lines ++ tail) t') s.1.1 v.1.1))
-  lines_sound needed j (line ∷ lines) tail exit behind is k h e t s v =
-      let is' = behind_tail by needed j line (lines ++ tail) exit is in
-      let h' = All-tail (IsPlacedLine statics f) line (lines ++ tail) h in
-      let t' = All-tail (LineThere functions) line (lines ++ tail) t in
-      alone_sound needed j line lines behind refl
-      (line_sound (m j) line (lines ++ tail) exit (scan at (lines_code places m needed None (suc j) lines) behind) (λ r u w. lines_before needed (suc j) lines tail exit behind r is' k h' t' u w) (λ r w. lives_home statics f live (lines ++ tail) exit r homes h' e w) s v.0)
-      (lines_sound needed (suc j) lines tail exit behind is' k h' e t' s.1 v.1)
 
   -- a block
   abbrev pub body : Option ℕ → List Line → Exit → List CodeLine

@@ -1,16 +1,16 @@
 -- A line that is neither a cut nor a call: selected, it uses and sets what it does in placed code, beside registers that each cut saves.
-use Rattle.std.proofs.Common.{◌≡◌, ◌≢◌, ℕ, ◌⊎◌, inl, inr, Bool, true, false, [], ◌∷◌, ◌++◌, Option, Some, None, refl, ap, ◌∙◌, subst}
-use Rattle.std.specs.Prelude.{◌==◌, ◌||◌, nat_lt, if◌then◌else◌}
+use Rattle.std.proofs.Common.{◌≡◌, ◌≢◌, ℕ, ◌^◌, ◌<◌, ◌⊎◌, inl, inr, Bool, true, false, List, [], ◌∷◌, ◌++◌, Option, Some, None, refl, sym, ap, ◌∙◌, subst}
+use Rattle.std.specs.Prelude.{◌==◌, ◌&&◌, ◌||◌, not, nat_lt, if◌then◌else◌}
 use Rattle.im_num.specs.declared.kind.Kind.{Kind}
 use Rattle.im_num.specs.declared.kind.Kind.TheVariants.{I8, U8, I16, U16, I32, U32, Ptr}
 use Rattle.im_num.specs.Kinds.{is_signed, word}
 use Rattle.im_rv.specs.declared.instr.Op.{Op}
-use Rattle.im_rv.specs.declared.instr.Op.TheVariants.{Addi, Xori, Ori, Andi, Slli, Srli, Srai}
+use Rattle.im_rv.specs.declared.instr.Op.TheVariants.{Addi, Slti, Sltiu, Xori, Ori, Andi, Slli, Srli, Srai, Sltu}
 use Rattle.im_rv.specs.Decode.{Line as Instruction}
-use Rattle.im_rv.specs.Lines.{plain_line}
+use Rattle.im_rv.specs.Lines.{CodeLine, plain_line}
 use Rattle.im_rv_reach.specs.Instructions.{with_immediate, on_registers, upper}
 use Rattle.im_gap.specs.declared.flow.Turn.TheVariants.{Passes}
-use Rattle.im_select_relation.specs.OperatorTables.{by_sign, less_op}
+use Rattle.im_select_relation.specs.OperatorTables.{by_sign, commutes, less_op, less_by, least}
 use Rattle.im_store.specs.declared.operators.BinaryOp.{BinaryOp}
 use Rattle.im_store.specs.declared.operators.BinaryOp.TheVariants.{Add, Subtract, BitAnd, BitOr, BitXor, ShiftLeft, ShiftRight}
 use Rattle.im_store.specs.declared.operators.UnaryOp.TheVariants.{Negate, Complement}
@@ -22,9 +22,12 @@ use Rattle.im_block.specs.declared.code.Place.TheVariants.{Static, Local, Throug
 use Rattle.im_block.specs.declared.code.Line.{Line}
 use Rattle.im_block.specs.declared.code.Line.TheVariants.{Put, PutNull, Copy, Convert, Unary, Not, Compute, Compare, Move, Distance, Address, Read, Write, Reload, Spill, Cut, Call, Serve}
 use Rattle.im_alloc_relation.specs.Live.{uses, sets, place_uses}
-use Rattle.im_select.specs.Emitted.{high_of, low_of, constant_code, displaced_code, displaced_base, place_number, place_code, place_base, moved_code, copied_code, compared_code, shifted_code, step_op, shift_of, multiplied_code, shifts_code, scaled_code, pointer_code, based_code, address_code, computed_code, by_low, by_bits, negated, immediate_line, by_or, stored_from, way_code, line_code}
+use Rattle.im_live.specs.Reads.{writes}
+use Rattle.im_select.specs.declared.folding.Constant.{Constant}
+use Rattle.im_select.specs.Emitted.{high_of, low_of, constant_code, displaced_code, displaced_base, place_number, place_code, place_base, moved_code, copied_code, compared_code, shifted_code, step_op, shift_of, multiplied_code, shifts_code, scaled_code, pointer_code, based_code, address_code, computed_code, by_low, by_bits, negated, above, immediate_line, constant_line, below_line, weighing_line, weighed_code, comparison_line, by_or, stored_from, way_code, line_code}
+use Rattle.im_select.proofs.Pairing.{Spent, Takes, OnRight, OnLeft, Weighs, Stores, right_code, left_code, weighs_code, low_is, below_is, above_small, ZeroOr, IsNone, IsSome, zero_or, immediate_of}
 use Rattle.im_saved_code.specs.Scan.{way}
-use Rattle.im_saved_code.proofs.Scanning.{IsUnsaved, unsaved_not, other_is, or_left, or_right, same_of, same_is, ArePlain, plain_append, Wants, wants_append}
+use Rattle.im_saved_code.proofs.Scanning.{IsUnsaved, unsaved_not, either, other_is, or_left, or_right, same_of, same_is, ArePlain, plain_append, Wants, wants_append}
 use Rattle.im_saved_code.proofs.Plain.{operation_way, less_way, load_way, store_way, step_way, constant_plain, constant_wants, displaced_plain, displaced_wants, place_plain, place_wants}
 
 -- no cut and no call
@@ -134,16 +137,84 @@ immediate_way to ShiftLeft kind left n l e = bits_way Slli to left n l refl e
 immediate_way to ShiftRight kind left n l e = bits_way (by_sign kind Srai Srli) to left n l (srl_way (is_signed kind)) e
 immediate_way to op kind left n l e = absurd cc
 
--- whatever it takes and passes on
-pub way_plain : (at : Name → ℕ) (m : ℕ) (passed before : Option ℕ) (line : Line) → IsWork line → ArePlain (way_code at m passed before line)
-way_plain at m None before (Put to z) work = work_plain at m (Put to z) work
-way_plain at m (Some n) before (Put to z) work = tt
-way_plain at m passed None (Compute to op kind left right) work = work_plain at m (Compute to op kind left right) work
-way_plain at m passed (Some n) (Compute to op kind left right) work = by (immediate_line to op kind left n) refl
+pub constant_way : (to : ℕ) (op : BinaryOp) (kind : Kind) (left right : ℕ) (c : Constant) (l : Instruction) → constant_line to op kind left right c ≡ Some l → way l.op ≡ Passes
+constant_way to op kind left right c l = by (right == c.register) (left == c.register) (commutes op)
   where
-    by : (o : Option Instruction) → immediate_line to op kind left n ≡ o → ArePlain (by_or (computed_code to op kind left right) o)
+    by : (p q s : Bool) → (if p then (if q then None else immediate_line to op kind left c.word) else (if q && s then immediate_line to op kind right c.word else None)) ≡ Some l → way l.op ≡ Passes
+    by true true s e = absurd cc
+    by true false s e = immediate_way to op kind left c.word l e
+    by false true true e = immediate_way to op kind right c.word l e
+    by false true false e = absurd cc
+    by false false s e = absurd cc
+
+slt_way : (b : Bool) → way (if b then Slti else Sltiu) ≡ Passes
+slt_way true = refl
+slt_way false = refl
+
+below_way : (to : ℕ) (kind : Kind) (left n : ℕ) (l : Instruction) → below_line to kind left n ≡ Some l → way l.op ≡ Passes
+below_way to kind left n l = by (n == least kind)
+  where
+    by : (b : Bool) → (if b then None else by_low (less_by kind) to left n) ≡ Some l → way l.op ≡ Passes
+    by true e = absurd cc
+    by false e = low_way (less_by kind) to left n l (slt_way (is_signed kind)) e
+
+zero_way : (zero : Instruction) (left n : ℕ) (l : Instruction) → way zero.op ≡ Passes → (if n == 0 then Some zero else by_low Addi 5 left (negated n)) ≡ Some l → way l.op ≡ Passes
+zero_way zero left n l w = by (n == 0)
+  where
+    by : (b : Bool) → (if b then Some zero else by_low Addi 5 left (negated n)) ≡ Some l → way l.op ≡ Passes
+    by true e = let s : zero ≡ l = cc in subst (λ (x : Instruction). way x.op ≡ Passes) s w
+    by false e = low_way Addi 5 left (negated n) l refl e
+
+weighing_way : (to : ℕ) (op : Comparison) (kind : Kind) (left n : ℕ) (l : Instruction) → weighing_line to op kind left n ≡ Some l → way l.op ≡ Passes
+weighing_way to Less kind left n l e = low_way (less_by kind) to left n l (slt_way (is_signed kind)) e
+weighing_way to Greater kind left n l e = below_way to kind left (above n) l e
+weighing_way to LessOrEqual kind left n l e = below_way to kind left (above n) l e
+weighing_way to GreaterOrEqual kind left n l e = low_way (less_by kind) to left n l (slt_way (is_signed kind)) e
+weighing_way to Equal kind left n l e = zero_way (with_immediate Sltiu to left 1) left n l refl e
+weighing_way to NotEqual kind left n l e = zero_way (on_registers Sltu to 0 left) left n l refl e
+
+pub comparison_way : (to : ℕ) (op : Comparison) (kind : Kind) (left right : ℕ) (c : Constant) (l : Instruction) → comparison_line to op kind left right c ≡ Some l → way l.op ≡ Passes
+comparison_way to op kind left right c l = by (right == c.register) (left == c.register)
+  where
+    by : (p q : Bool) → (if p && not q then weighing_line to op kind left c.word else None) ≡ Some l → way l.op ≡ Passes
+    by true false e = weighing_way to op kind left c.word l e
+    by true true e = absurd cc
+    by false q e = absurd cc
+
+weighed_plain : (to : ℕ) (op : Comparison) (n : ℕ) → ArePlain (weighed_code to op n)
+weighed_plain to Less n = tt
+weighed_plain to Greater n = ((refl, refl), tt)
+weighed_plain to LessOrEqual n = tt
+weighed_plain to GreaterOrEqual n = ((refl, refl), tt)
+weighed_plain to Equal n = by (n == 0)
+  where
+    by : (b : Bool) → ArePlain (if b then [] else plain_line (with_immediate Sltiu to 5 1) ∷ [])
+    by true = tt
+    by false = ((refl, refl), tt)
+weighed_plain to NotEqual n = by (n == 0)
+  where
+    by : (b : Bool) → ArePlain (if b then [] else plain_line (on_registers Sltu to 0 5) ∷ [])
+    by true = tt
+    by false = ((refl, refl), tt)
+
+-- whatever it takes and passes on
+pub way_plain : (at : Name → ℕ) (m : ℕ) (passed before : Option Constant) (line : Line) → IsWork line → ArePlain (way_code at m passed before line)
+way_plain at m None before (Put to z) work = work_plain at m (Put to z) work
+way_plain at m (Some c) before (Put to z) work = tt
+way_plain at m None before (PutNull to) work = work_plain at m (PutNull to) work
+way_plain at m (Some c) before (PutNull to) work = tt
+way_plain at m passed None (Compute to op kind left right) work = work_plain at m (Compute to op kind left right) work
+way_plain at m passed (Some c) (Compute to op kind left right) work = by (constant_line to op kind left right c) refl
+  where
+    by : (o : Option Instruction) → constant_line to op kind left right c ≡ o → ArePlain (by_or (computed_code to op kind left right) o [])
     by None e = ((operation_way op kind, refl), tt)
-    by (Some l) e = ((immediate_way to op kind left n l e, refl), tt)
+    by (Some l) e = ((constant_way to op kind left right c l e, refl), tt)
+way_plain at m passed None (Compare to op kind left right) work = work_plain at m (Compare to op kind left right) work
+way_plain at m passed (Some c) (Compare to op kind left right) work = by (comparison_line to op kind left right c) refl
+  where
+    by : (o : Option Instruction) → comparison_line to op kind left right c ≡ o → ArePlain (by_or (compared_code to (less_op kind) left right op) o (weighed_code to op c.word))
+    by None e = work_plain at m (Compare to op kind left right) work
+    by (Some l) e = ((comparison_way to op kind left right c l e, refl), weighed_plain to op c.word)
 way_plain at m passed before (Write place kind from access) work = work_plain at m (Write place kind (stored_from before from) access) work
 way_plain at m passed before line work = work_plain at m line work
 
@@ -233,6 +304,37 @@ module _ (X : Type 0) (r : ℕ) (u : IsUnsaved r) where
   not_five left right to (inr (inr (ne, inl e))) = absurd (zero_not e)
   not_five left right to (inr (inr (ne, inr (inl e)))) = absurd (ne e)
   not_five left right to (inr (inr (ne, inr (inr c)))) = inr (other_is r to c.0, c.1)
+
+  -- a comparison with a word
+  five_of : (left to : ℕ) → One left 0 5 (One 5 0 to X) → Wanted (r == left) to
+  five_of left to (inl e) = inl (same_is r left e)
+  five_of left to (inr (inl e)) = absurd (zero_not e)
+  five_of left to (inr (inr (ne, inl e))) = absurd (ne e)
+  five_of left to (inr (inr (ne, inr (inl e)))) = absurd (zero_not e)
+  five_of left to (inr (inr (ne, inr (inr c)))) = inr (other_is r to c.0, c.1)
+
+  zero_five_of : (left to : ℕ) → One left 0 5 (One 0 5 to X) → Wanted (r == left) to
+  zero_five_of left to (inl e) = inl (same_is r left e)
+  zero_five_of left to (inr (inl e)) = absurd (zero_not e)
+  zero_five_of left to (inr (inr (ne, inl e))) = absurd (zero_not e)
+  zero_five_of left to (inr (inr (ne, inr (inl e)))) = absurd (ne e)
+  zero_five_of left to (inr (inr (ne, inr (inr c)))) = inr (other_is r to c.0, c.1)
+
+  equal_of : (left n to : ℕ) (l : Instruction) (rest : List CodeLine) → ZeroOr n (with_immediate Sltiu to left 1) left (plain_line (with_immediate Sltiu to 5 1)) l rest → Wants (plain_line l ∷ rest) X r → Wanted (r == left) to
+  equal_of left n to l rest (IsNone e) w = one_of left to w
+  equal_of left n to l rest IsSome w = five_of left to w
+
+  unequal_of : (left n to : ℕ) (l : Instruction) (rest : List CodeLine) → ZeroOr n (on_registers Sltu to 0 left) left (plain_line (on_registers Sltu to 0 5)) l rest → Wants (plain_line l ∷ rest) X r → Wanted (r == left) to
+  unequal_of left n to l rest (IsNone e) w = zero_one_of left to w
+  unequal_of left n to l rest IsSome w = zero_five_of left to w
+
+  weighed_of : (to : ℕ) (op : Comparison) (kind : Kind) (left n : ℕ) (l : Instruction) → n < 2 ^ 32 → weighing_line to op kind left n ≡ Some l → Wants (plain_line l ∷ weighed_code to op n) X r → Wanted (r == left) to
+  weighed_of to Less kind left n l small e w = one_of left to (subst (λ x. Wants (plain_line x ∷ []) X r) (low_is (less_by kind) to left n l small e) w)
+  weighed_of to Greater kind left n l small e w = one_twice left to (subst (λ x. Wants (plain_line x ∷ weighed_code to Greater n) X r) (below_is to kind left (above n) l (above_small n) e).1 w)
+  weighed_of to LessOrEqual kind left n l small e w = one_of left to (subst (λ x. Wants (plain_line x ∷ []) X r) (below_is to kind left (above n) l (above_small n) e).1 w)
+  weighed_of to GreaterOrEqual kind left n l small e w = one_twice left to (subst (λ x. Wants (plain_line x ∷ weighed_code to GreaterOrEqual n) X r) (low_is (less_by kind) to left n l small e) w)
+  weighed_of to Equal kind left n l small e w = equal_of left n to l _ (zero_or n (with_immediate Sltiu to left 1) left (plain_line (with_immediate Sltiu to 5 1)) l small e) w
+  weighed_of to NotEqual kind left n l small e w = unequal_of left n to l _ (zero_or n (on_registers Sltu to 0 left) left (plain_line (on_registers Sltu to 0 5)) l small e) w
 
   moved_of : (pointer by to : ℕ) → r ≢ 5 → One 5 by 5 (One pointer 5 to X) → Wanted (r == pointer || r == by) to
   moved_of pointer by to away (inl e) = absurd (away e)
@@ -361,3 +463,58 @@ work_wants at m (Cut cause) work X r u w = absurd work
 work_wants at m (Call to i first count) work X r u w = absurd work
 work_wants at m (Serve to service None) work X r u w = absurd work
 work_wants at m (Serve to service (Some from)) work X r u w = absurd work
+
+-- ---- a line that takes the constant before it
+
+pub taker_works : (lives : ℕ → Bool) (c : Constant) (user : Line) → Takes lives c user → IsWork user
+taker_works lives c user (OnRight to op kind left l ne spent e) = tt
+taker_works lives c user (OnLeft to op kind right l ne spent turns e) = tt
+taker_works lives c user (Weighs to op kind left l ne spent e) = tt
+taker_works lives c user (Stores place kind access zero apart unread) = tt
+
+pub taker_writes : (lives : ℕ → Bool) (c : Constant) (user : Line) (r : ℕ) → Takes lives c user → writes user r ≡ sets user r
+taker_writes lives c user r (OnRight to op kind left l ne spent e) = refl
+taker_writes lives c user r (OnLeft to op kind right l ne spent turns e) = refl
+taker_writes lives c user r (Weighs to op kind left l ne spent e) = refl
+taker_writes lives c user r (Stores place kind access zero apart unread) = refl
+
+-- the constant's register doesn't live behind it, unless it sets that
+spent_dead : (lives : ℕ → Bool) (to x r : ℕ) → Spent lives to x → (r == to) ≡ false → r ≡ x → lives x ≡ false
+spent_dead lives to x r (inl e) other q = absurd (let same = same_is r to (q ∙ e) in let bad : true ≡ false = sym same ∙ other in cc)
+spent_dead lives to x r (inr dead) other q = dead
+
+pub taker_spent : (lives : ℕ → Bool) (c : Constant) (user : Line) (r : ℕ) → Takes lives c user → sets user r ≡ false → r ≡ c.register → lives c.register ≡ false
+taker_spent lives c user r (OnRight to op kind left l ne spent e) other q = spent_dead lives to c.register r spent other q
+taker_spent lives c user r (OnLeft to op kind right l ne spent turns e) other q = spent_dead lives to c.register r spent other q
+taker_spent lives c user r (Weighs to op kind left l ne spent e) other q = spent_dead lives to c.register r spent other q
+taker_spent lives c user r (Stores place kind access zero apart unread) other q = unread
+
+-- it wants what it uses beside the constant
+abbrev pub Taken : Type 0 → ℕ → ℕ → Line → Type 0
+Taken X r x user = ((uses user r ≡ true) × (r ≢ x)) ⊎ ((sets user r ≡ false) × X)
+
+one_left : (r left x : ℕ) → left ≢ x → (r == left) ≡ true → ((r == left || r == x) ≡ true) × (r ≢ x)
+one_left r left x ne e = (or_left (r == left) (r == x) e, λ q. ne (sym (same_of r left e) ∙ q))
+
+one_right : (r right x : ℕ) → right ≢ x → (r == right) ≡ true → ((r == x || r == right) ≡ true) × (r ≢ x)
+one_right r right x ne e = (or_right (r == x) (r == right) e, λ q. ne (sym (same_of r right e) ∙ q))
+
+pub taker_wants : (at : Name → ℕ) (m : ℕ) (lives : ℕ → Bool) (c : Constant) (user : Line) → c.word < 2 ^ 32 → Takes lives c user → (X : Type 0) (r : ℕ) → IsUnsaved r → Wants (way_code at m None (Some c) user) X r → Taken X r c.register user
+taker_wants at m lives c user small (OnRight to op kind left l ne spent e) X r u w =
+    let i = immediate_of to op kind left c.word l small e in
+    let v : Wants (plain_line l ∷ []) X r = subst (λ z. Wants z X r) (right_code to op kind left c l ne e) w in
+    elim (one_of X r u left to (subst (λ x. Wants (plain_line x ∷ []) X r) i.line v)) [ inl a ↦ inl (one_left r left c.register ne a) | inr b ↦ inr b ]
+taker_wants at m lives c user small (OnLeft to op kind right l ne spent turns e) X r u w =
+    let i = immediate_of to op kind right c.word l small e in
+    let v : Wants (plain_line l ∷ []) X r = subst (λ z. Wants z X r) (left_code to op kind right c l ne turns e) w in
+    elim (one_of X r u right to (subst (λ x. Wants (plain_line x ∷ []) X r) i.line v)) [ inl a ↦ inl (one_right r right c.register ne a) | inr b ↦ inr b ]
+taker_wants at m lives c user small (Weighs to op kind left l ne spent e) X r u w =
+    let v : Wants (plain_line l ∷ weighed_code to op c.word) X r = subst (λ z. Wants z X r) (weighs_code to op kind left c l ne e) w in
+    elim (weighed_of X r u to op kind left c.word l small e v) [ inl a ↦ inl (one_left r left c.register ne a) | inr b ↦ inr b ]
+taker_wants at m lives c user small (Stores place kind access zero apart unread) X r u w = elim (work_wants at m (Write place kind 0 access) tt X r u w) [
+  | inl a ↦ elim (either (place_uses place r) (r == 0) a) [
+    | inl b ↦ inl (or_left (place_uses place r) (r == c.register) b, λ q. (let bad : true ≡ false = sym b ∙ ap (place_uses place) q ∙ apart in cc))
+    | inr b ↦ absurd (unsaved_not r 0 u refl (same_of r 0 b))
+  ]
+  | inr b ↦ inr b
+]

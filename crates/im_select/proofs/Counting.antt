@@ -3,13 +3,14 @@ use Rattle.std.proofs.Common.{subst, sym, ◌≡◌, ◌<◌, ◌≤◌, ℕ, su
 use Rattle.std.specs.Prelude.{◌==◌, ◌&&◌, not, if◌then◌else◌, slice_get}
 use Rattle.im_num.specs.declared.kind.Kind.TheVariants.{I8, U8, I16, U16, I32, U32, Ptr}
 use Rattle.im_num.specs.Kinds.{word}
-use Rattle.im_rv.specs.declared.instr.Op.TheVariants.{Jalr, Lw, Sw, Addi, Add as AddOp, Mul, Div}
+use Rattle.im_rv.specs.declared.instr.Op.TheVariants.{Jalr, Lw, Sw, Addi, Sltiu, Add as AddOp, Sltu, Mul, Div}
 use Rattle.im_rv.specs.Decode.{Line as Instruction}
 use Rattle.im_rv.specs.Lines.{CodeLine, plain_line}
 use Rattle.im_rv_reach.specs.Instructions.{with_immediate, on_registers, storing, upper}
-use Rattle.im_select_relation.specs.OperatorTables.{load_op, store_op}
+use Rattle.im_select_relation.specs.OperatorTables.{load_op, store_op, less_op}
 use Rattle.im_rtlib.specs.Routines.{numbered}
 use Rattle.im_store.specs.declared.operators.UnaryOp.TheVariants.{Negate, Complement}
+use Rattle.im_store.specs.declared.operators.Comparison.{Comparison}
 use Rattle.im_store.specs.declared.operators.Comparison.TheVariants.{Less, Greater, LessOrEqual, GreaterOrEqual, Equal, NotEqual}
 use Rattle.im_store.specs.Objects.{Name, Slot}
 use Rattle.im_block.specs.declared.code.Place.{Place}
@@ -27,7 +28,8 @@ use Rattle.im_select.specs.Leads.{led}
 use Rattle.im_select.specs.declared.branching.Test.{Test}
 use Rattle.im_select.specs.declared.distance.Distance.{Distance}
 use Rattle.im_select.specs.declared.distance.Distance.TheVariants.{Near, Far}
-use Rattle.im_select.specs.Emitted.{high_of, low_of, constant_by, constant_code, displaced_by, displaced_code, displaced_base, step_op, adds_by, adds_code, place_number, place_code, place_base, moved_code, copied_code, shift_of, shifts_code, scaled_code, scaled_register, based_code, address_code, computed_code, immediate_line, passed_by, by_or, stored_from, way_code, line_code, lines_code, behind_each, onward_code, test_code, test_or, taken_test, own_lines, is_next, branch_code, exit_code, is_empty, ended_code, block_code, Laying, leads_of, next_label, found_code, laid_block, laid_code, laid_order, kept_order, blocks_code, enter_code, prologue_code, function_code, labelled, entry_label}
+use Rattle.im_select.specs.declared.folding.Constant.{Constant}
+use Rattle.im_select.specs.Emitted.{high_of, low_of, constant_by, constant_code, displaced_by, displaced_code, displaced_base, step_op, adds_by, adds_code, place_number, place_code, place_base, moved_code, copied_code, shift_of, shifts_code, scaled_code, scaled_register, based_code, address_code, computed_code, constant_line, comparison_line, compared_code, weighed_code, passed_by, by_or, stored_from, way_code, line_code, lines_code, behind_each, onward_code, test_code, test_or, taken_test, own_lines, is_next, branch_code, exit_code, is_empty, ended_code, block_code, Laying, leads_of, next_label, found_code, laid_block, laid_code, laid_order, kept_order, blocks_code, enter_code, prologue_code, function_code, labelled, entry_label}
 use Rattle.im_select.proofs.Taking.{takes}
 use Rattle.im_select.proofs.Following.{led_words, kept_cost}
 use Rattle.im_select.proofs.Ordering.{cost_found, cost_in, order_cost}
@@ -126,33 +128,57 @@ few at m (Call to i first count) h = omega arith
 few at m (Serve to service None) h = omega arith
 few at m (Serve to service (Some from)) h = omega arith
 
--- whatever it takes and passes on
-pub way_few : (at : Name → ℕ) (m : ℕ) (passed before : Option ℕ) (line : Line) → (StartsWithCut (line ∷ []) → ⊥) → length (way_code at m passed before line) + 1 ≤ with_cut line
-way_few at m None before (Put to z) h = few at m (Put to z) h
-way_few at m (Some n) before (Put to z) h = omega arith
-way_few at m passed None (Compute to op kind left right) h = few at m (Compute to op kind left right) h
-way_few at m passed (Some n) (Compute to op kind left right) h = by (immediate_line to op kind left n)
+weighed_few : (to : ℕ) (op : Comparison) (n : ℕ) → length (weighed_code to op n) ≤ 1
+weighed_few to Less n = omega arith
+weighed_few to Greater n = omega arith
+weighed_few to LessOrEqual n = omega arith
+weighed_few to GreaterOrEqual n = omega arith
+weighed_few to Equal n = one (n == 0) (plain_line (with_immediate Sltiu to 5 1))
   where
-    by : (o : Option Instruction) → length (by_or (computed_code to op kind left right) o) + 1 ≤ with_cut (Compute to op kind left right)
+    one : (b : Bool) (x : CodeLine) → length (if b then [] else x ∷ []) ≤ 1
+    one true x = omega arith
+    one false x = omega arith
+weighed_few to NotEqual n = one (n == 0) (plain_line (on_registers Sltu to 0 5))
+  where
+    one : (b : Bool) (x : CodeLine) → length (if b then [] else x ∷ []) ≤ 1
+    one true x = omega arith
+    one false x = omega arith
+
+-- whatever it takes and passes on
+pub way_few : (at : Name → ℕ) (m : ℕ) (passed before : Option Constant) (line : Line) → (StartsWithCut (line ∷ []) → ⊥) → length (way_code at m passed before line) + 1 ≤ with_cut line
+way_few at m None before (Put to z) h = few at m (Put to z) h
+way_few at m (Some c) before (Put to z) h = omega arith
+way_few at m None before (PutNull to) h = few at m (PutNull to) h
+way_few at m (Some c) before (PutNull to) h = omega arith
+way_few at m passed None (Compute to op kind left right) h = few at m (Compute to op kind left right) h
+way_few at m passed (Some c) (Compute to op kind left right) h = by (constant_line to op kind left right c)
+  where
+    by : (o : Option Instruction) → length (by_or (computed_code to op kind left right) o []) + 1 ≤ with_cut (Compute to op kind left right)
     by None = omega arith
     by (Some l) = omega arith
+way_few at m passed None (Compare to op kind left right) h = few at m (Compare to op kind left right) h
+way_few at m passed (Some c) (Compare to op kind left right) h = by (comparison_line to op kind left right c)
+  where
+    by : (o : Option Instruction) → length (by_or (compared_code to (less_op kind) left right op) o (weighed_code to op c.word)) + 1 ≤ with_cut (Compare to op kind left right)
+    by None = few at m (Compare to op kind left right) h
+    by (Some l) = let q = weighed_few to op c.word in omega arith
 way_few at m passed before (Write place kind from access) h = few at m (Write place kind (stored_from before from) access) h
 way_few at m passed before line h = few at m line h
 
 -- a cut is paid by what stands behind it
-pub record Paid (at : Name → ℕ) (m : ℕ → ℕ) (needed : ℕ → ℕ → Bool) (before : Option ℕ) (j : ℕ) (lines : List Line) : Type 0 where
+pub record Paid (at : Name → ℕ) (m : ℕ → ℕ) (needed : ℕ → ℕ → Bool) (before : Option Constant) (j : ℕ) (lines : List Line) : Type 0 where
   pub most : length (lines_code at m needed before j lines) ≤ sum_of with_cut lines + 1
   pub own : (StartsWithCut lines → ⊥) → length (lines_code at m needed before j lines) ≤ sum_of with_cut lines
 
-behind : (at : Name → ℕ) (m : ℕ → ℕ) (needed : ℕ → ℕ → Bool) (before : Option ℕ) (j : ℕ) (line : Line) (rest : List Line) → (StartsWithCut (line ∷ []) → ⊥) → Paid at m needed (passed_by (needed (suc j)) line rest) (suc j) rest → Paid at m needed before j (line ∷ rest)
+behind : (at : Name → ℕ) (m : ℕ → ℕ) (needed : ℕ → ℕ → Bool) (before : Option Constant) (j : ℕ) (line : Line) (rest : List Line) → (StartsWithCut (line ∷ []) → ⊥) → Paid at m needed (passed_by (needed (suc j)) line rest) (suc j) rest → Paid at m needed before j (line ∷ rest)
 behind at m needed before j line rest h p =
-    let passed : Option ℕ = passed_by (needed (suc j)) line rest in
+    let passed : Option Constant = passed_by (needed (suc j)) line rest in
     let q = way_few at (m j) passed before line h in
     let e = length-append (way_code at (m j) passed before line) (lines_code at m needed passed (suc j) rest) in
     let o = p.most in
     record { most = omega arith; own = λ n. omega arith }
 
-pub paid : (at : Name → ℕ) (m : ℕ → ℕ) (needed : ℕ → ℕ → Bool) (before : Option ℕ) (j : ℕ) (lines : List Line) → CutsApart lines → Paid at m needed before j lines
+pub paid : (at : Name → ℕ) (m : ℕ → ℕ) (needed : ℕ → ℕ → Bool) (before : Option Constant) (j : ℕ) (lines : List Line) → CutsApart lines → Paid at m needed before j lines
 paid at m needed before j [] h = record { most = omega arith; own = λ n. omega arith }
 paid at m needed before j (Cut cause ∷ rest) h =
     let p = paid at m needed None (suc j) rest h.1 in

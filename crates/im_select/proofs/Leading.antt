@@ -8,6 +8,7 @@ use Rattle.im_rv.specs.declared.instr.Op.TheVariants.{Jal}
 use Rattle.im_rv.specs.Formats.{format_of}
 use Rattle.im_rv.specs.Decode.{Line as Instruction}
 use Rattle.im_rv.specs.Lines.{CodeLine, plain_line}
+use Rattle.im_select_relation.specs.OperatorTables.{less_op}
 use Rattle.im_store.specs.declared.operators.UnaryOp.TheVariants.{Negate, Complement}
 use Rattle.im_store.specs.declared.operators.Comparison.TheVariants.{Less, Greater, LessOrEqual, GreaterOrEqual, Equal, NotEqual}
 use Rattle.im_store.specs.Objects.{Name, Slot}
@@ -21,7 +22,8 @@ use Rattle.im_select.specs.Given.{Given}
 use Rattle.im_select.specs.declared.branching.Test.{Test}
 use Rattle.im_select.specs.declared.distance.Distance.{Distance}
 use Rattle.im_select.specs.declared.distance.Distance.TheVariants.{Near, Far}
-use Rattle.im_select.specs.Emitted.{constant_code, displaced_code, adds_code, place_number, place_code, copied_code, scaled_code, address_code, call_code, computed_code, immediate_line, passed_by, by_or, stored_from, way_code, line_code, lines_code, behind_each, leave_code, result_code, onward_code, test_op, test_code, test_or, taken_test, own_lines, taking_code, is_next, branch_code, exit_code, is_empty, Laying, leads_of, next_label, found_code, laid_block, laid_code, laid_order, kept_order, blocks_code, enter_code, prologue_code, function_code, labelled, entry_label}
+use Rattle.im_select.specs.declared.folding.Constant.{Constant}
+use Rattle.im_select.specs.Emitted.{constant_code, displaced_code, adds_code, place_number, place_code, copied_code, scaled_code, address_code, call_code, computed_code, constant_line, comparison_line, compared_code, weighed_code, passed_by, by_or, stored_from, way_code, line_code, lines_code, behind_each, leave_code, result_code, onward_code, test_op, test_code, test_or, taken_test, own_lines, taking_code, is_next, branch_code, exit_code, is_empty, Laying, leads_of, next_label, found_code, laid_block, laid_code, laid_order, kept_order, blocks_code, enter_code, prologue_code, function_code, labelled, entry_label}
 use Rattle.im_select.specs.Leads.{led}
 use Rattle.im_select_relation.specs.Selected.{IsEntry}
 use Rattle.im_select.specs.Places.{CallsBelow}
@@ -33,7 +35,7 @@ use Rattle.im_select.proofs.Parts.{leads_in}
 use Rattle.im_select.proofs.Taking.{takes, all_left, test_branches}
 use Rattle.im_select.proofs.Ordering.{Among, Distinct, order_distinct, order_below, order_all}
 use Rattle.im_select.proofs.Standing.{after, after_length}
-use Rattle.im_select.proofs.Plain.{Bare, constant_bare, displaced_bare, adds_bare, place_bare, copied_bare, scaled_bare, address_bare, bare_append, Lead, lead_append, bare_lead, lead_labelled, Unlabelled, unlabelled_append, bare_unlabelled, only_first, first_has, label_left, label_right, label_split, length_labelled}
+use Rattle.im_select.proofs.Plain.{Bare, weighed_bare, constant_bare, displaced_bare, adds_bare, place_bare, copied_bare, scaled_bare, address_bare, bare_append, Lead, lead_append, bare_lead, lead_labelled, Unlabelled, unlabelled_append, bare_unlabelled, only_first, first_has, label_left, label_right, label_split, length_labelled}
 use Rattle.im_select.proofs.Counting.{ended_some}
 use Rattle.im_select.proofs.Laid.{starts_in, starts_of, first_start, later_start}
 
@@ -87,22 +89,30 @@ line_sound names whole at m (Cut cause) o h = ((refl, tt), ((λ l e. leads names
 line_sound names whole at m (Call to i first count) o h = ((refl, tt), ((λ l e. leads names whole (entry_label i) _ refl (inr (inr (inr (inl (i, h, refl))))) l e), tt))
 line_sound names whole at m (Serve to service from) o h = ((refl, tt), ((λ l e. leads names whole (service_label service) _ refl (inr (inl (service, refl))) l e), tt))
 
-way_sound : (names : Given) (whole : List CodeLine) (at : Name → ℕ) (m : ℕ) (passed before : Option ℕ) (line : Line) → IsEntry m → CallsBelow names.functions line → Sound names whole (way_code at m passed before line)
+way_sound : (names : Given) (whole : List CodeLine) (at : Name → ℕ) (m : ℕ) (passed before : Option Constant) (line : Line) → IsEntry m → CallsBelow names.functions line → Sound names whole (way_code at m passed before line)
 way_sound names whole at m None before (Put to z) o h = line_sound names whole at m (Put to z) o h
-way_sound names whole at m (Some n) before (Put to z) o h = (tt, tt)
+way_sound names whole at m (Some c) before (Put to z) o h = (tt, tt)
+way_sound names whole at m None before (PutNull to) o h = line_sound names whole at m (PutNull to) o h
+way_sound names whole at m (Some c) before (PutNull to) o h = (tt, tt)
 way_sound names whole at m passed None (Compute to op kind left right) o h = line_sound names whole at m (Compute to op kind left right) o h
-way_sound names whole at m passed (Some n) (Compute to op kind left right) o h = by (immediate_line to op kind left n)
+way_sound names whole at m passed (Some c) (Compute to op kind left right) o h = by (constant_line to op kind left right c)
   where
-    by : (o : Option Instruction) → Sound names whole (by_or (computed_code to op kind left right) o)
+    by : (o : Option Instruction) → Sound names whole (by_or (computed_code to op kind left right) o [])
     by None = bare names whole (computed_code to op kind left right) (refl, tt)
     by (Some l) = bare names whole (plain_line l ∷ []) (refl, tt)
+way_sound names whole at m passed None (Compare to op kind left right) o h = line_sound names whole at m (Compare to op kind left right) o h
+way_sound names whole at m passed (Some c) (Compare to op kind left right) o h = by (comparison_line to op kind left right c)
+  where
+    by : (i : Option Instruction) → Sound names whole (by_or (compared_code to (less_op kind) left right op) i (weighed_code to op c.word))
+    by None = line_sound names whole at m (Compare to op kind left right) o h
+    by (Some l) = bare names whole (plain_line l ∷ weighed_code to op c.word) (refl, weighed_bare to op c.word)
 way_sound names whole at m passed before (Write place kind from access) o h = line_sound names whole at m (Write place kind (stored_from before from) access) o h
 way_sound names whole at m passed before line o h = line_sound names whole at m line o h
 
-lines_sound : (names : Given) (whole : List CodeLine) (at : Name → ℕ) (m : ℕ → ℕ) (needed : ℕ → ℕ → Bool) (before : Option ℕ) (j : ℕ) (lines : List Line) → ((j : ℕ) → IsEntry (m j)) → All (CallsBelow names.functions) lines → Sound names whole (lines_code at m needed before j lines)
+lines_sound : (names : Given) (whole : List CodeLine) (at : Name → ℕ) (m : ℕ → ℕ) (needed : ℕ → ℕ → Bool) (before : Option Constant) (j : ℕ) (lines : List Line) → ((j : ℕ) → IsEntry (m j)) → All (CallsBelow names.functions) lines → Sound names whole (lines_code at m needed before j lines)
 lines_sound names whole at m needed before j [] o h = (tt, tt)
 lines_sound names whole at m needed before j (line ∷ lines) o h =
-    let passed : Option ℕ = passed_by (needed (suc j)) line lines in
+    let passed : Option Constant = passed_by (needed (suc j)) line lines in
     both names whole (way_code at (m j) passed before line) (lines_code at m needed passed (suc j) lines) (way_sound names whole at (m j) passed before line (o j) (All-head (CallsBelow names.functions) line lines h)) (lines_sound names whole at m needed passed (suc j) lines o (All-tail (CallsBelow names.functions) line lines h))
 
 block_target : (names : Given) (b : ℕ) → b < length names.function.blocks.items → IsTarget names (block_label names b)

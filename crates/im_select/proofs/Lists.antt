@@ -5,10 +5,11 @@ use Rattle.im_rv.specs.declared.code.Line.{Line as RustLine}
 use Rattle.im_rv.specs.Lines.{CodeLine, code_line, code_lines}
 use Rattle.im_store.specs.Objects.{Name}
 use Rattle.im_block.specs.declared.code.Line.{Line}
+use Rattle.im_select.specs.declared.folding.Constant.{Constant}
 use Rattle.im_select.specs.Emitted.{passed_by, way_code, lines_code, Laying, laid_block, laid_code}
 
 -- a line is put, and the others are left
-pub lines_grown : (at : Name → ℕ) (m : ℕ → ℕ) (needed : ℕ → ℕ → Bool) (before passed : Option ℕ) (old now new : List CodeLine) (xs : List Line) (k : ℕ) (d : Line) → k < length xs → now ++ lines_code at m needed before k (drop k xs) ≡ old → passed ≡ passed_by (needed (k + 1)) (get_or xs k d) (drop (k + 1) xs) → new ≡ now ++ way_code at (m k) passed before (get_or xs k d) → new ++ lines_code at m needed passed (k + 1) (drop (k + 1) xs) ≡ old
+pub lines_grown : (at : Name → ℕ) (m : ℕ → ℕ) (needed : ℕ → ℕ → Bool) (before passed : Option Constant) (old now new : List CodeLine) (xs : List Line) (k : ℕ) (d : Line) → k < length xs → now ++ lines_code at m needed before k (drop k xs) ≡ old → passed ≡ passed_by (needed (k + 1)) (get_or xs k d) (drop (k + 1) xs) → new ≡ now ++ way_code at (m k) passed before (get_or xs k d) → new ++ lines_code at m needed passed (k + 1) (drop (k + 1) xs) ≡ old
 lines_grown at m needed before passed old now new xs k d l a e b =
     let line : Line = get_or xs k d in
     let rest : List Line = drop (k + 1) xs in
@@ -18,7 +19,7 @@ lines_grown at m needed before passed old now new xs k d l a e b =
     ∙ ap (λ z. now ++ (way_code at (m k) z before line ++ lines_code at m needed z (suc k) rest)) (e ∙ ap (λ z. passed_by (needed z) line rest) q)
     ∙ ap (λ z. now ++ lines_code at m needed before k z) (sym (drop_more xs k d l)) ∙ a
 
-pub lines_done : (at : Name → ℕ) (m : ℕ → ℕ) (needed : ℕ → ℕ → Bool) (before : Option ℕ) (old now : List CodeLine) (xs : List Line) (k : ℕ) → length xs ≤ k → now ++ lines_code at m needed before k (drop k xs) ≡ old → now ≡ old
+pub lines_done : (at : Name → ℕ) (m : ℕ → ℕ) (needed : ℕ → ℕ → Bool) (before : Option Constant) (old now : List CodeLine) (xs : List Line) (k : ℕ) → length xs ≤ k → now ++ lines_code at m needed before k (drop k xs) ≡ old → now ≡ old
 lines_done at m needed before old now xs k l a = sym (append-nil now) ∙ ap (λ z. now ++ lines_code at m needed before k z) (sym (drop_all k xs l)) ∙ a
 
 -- a block is put, and the others are left

@@ -22,7 +22,8 @@ use Rattle.im_live.specs.Words.{has, PlaceBelow, IsMachineLine, IsMachineExit, I
 use Rattle.im_live.specs.Entries.{entry_in, entries}
 use Rattle.im_live.proofs.Least.{greatest_same}
 use Rattle.im_select.specs.Given.{Given}
-use Rattle.im_select.specs.Emitted.{immediate_line, passed_by, way_code, lines_code, behind_each, behind_at}
+use Rattle.im_select.specs.declared.folding.Constant.{Constant}
+use Rattle.im_select.specs.Emitted.{constant_line, comparison_line, is_taken, passed_by, way_code, lines_code, behind_each, behind_at}
 use Rattle.im_select.specs.Selects.{IsClosedBlock}
 
 place_machine : (place : Place) → PlaceAtHome place → PlaceBelow place
@@ -85,17 +86,23 @@ behind_is live block points j r p lt small =
     let k : j + 1 ≡ suc j = omega arith in
     p.each (j + 1) r (omega arith) small ∙ ap (λ z. lives_before live (drop z block.lines.items) block.exit r) k
 
+taken_alike : (p q : ℕ → Bool) (c : Constant) (user : Line) → p c.register ≡ q c.register → is_taken p c user ≡ is_taken q c user
+taken_alike p q c (Compute to op kind left right) e = ap (λ b. is_some (constant_line to op kind left right c) && (c.register == to || not b)) e
+taken_alike p q c (Compare to op kind left right) e = ap (λ b. is_some (comparison_line to op kind left right c) && (c.register == to || not b)) e
+taken_alike p q c (Write place kind from access) e = ap (λ b. c.word == 0 && (from == c.register && not (place_uses place c.register || b))) e
+taken_alike p q c user e = refl
+
 passed_alike : (p q : ℕ → Bool) (line : Line) (lines : List Line) → (0 < length lines → (r : ℕ) → r < 32 → p r ≡ q r) → IsMachineLine line → passed_by p line lines ≡ passed_by q line lines
-passed_alike p q (Put r z) (Compute to op kind left right ∷ rest) h m = ap (λ b. if right == r && (not (left == r || (not (r == to) && b)) && is_some (immediate_line to op kind left (word z))) then Some (word z) else None) (h (omega arith) r m)
-passed_alike p q (Put r z) (Write place kind from access ∷ rest) h m = ap (λ b. if word z == 0 && (from == r && not (place_uses place r || b)) then Some (word z) else None) (h (omega arith) r m)
-passed_alike p q (Put r z) (user ∷ rest) h m = refl
+passed_alike p q (Put r z) (user ∷ rest) h m = let c : Constant = record { register = r; word = word z } in ap (λ b. if b then Some c else None) (taken_alike p q c user (h (omega arith) r m))
+passed_alike p q (PutNull r) (user ∷ rest) h m = let c : Constant = record { register = r; word = 0 } in ap (λ b. if b then Some c else None) (taken_alike p q c user (h (omega arith) r m))
 passed_alike p q (Put r z) [] h m = refl
+passed_alike p q (PutNull r) [] h m = refl
 passed_alike p q line lines h m = refl
 
-pub lines_alike : (at : Name → ℕ) (m n : ℕ → ℕ) (p q : ℕ → ℕ → Bool) (before : Option ℕ) (j : ℕ) (lines : List Line) → ((k : ℕ) → j ≤ k → k < j + length lines → m k ≡ n k) → ((k r : ℕ) → j ≤ k → k < j + length lines → r < 32 → p k r ≡ q k r) → All IsMachineLine lines → lines_code at m p before j lines ≡ lines_code at n q before j lines
+pub lines_alike : (at : Name → ℕ) (m n : ℕ → ℕ) (p q : ℕ → ℕ → Bool) (before : Option Constant) (j : ℕ) (lines : List Line) → ((k : ℕ) → j ≤ k → k < j + length lines → m k ≡ n k) → ((k r : ℕ) → j ≤ k → k < j + length lines → r < 32 → p k r ≡ q k r) → All IsMachineLine lines → lines_code at m p before j lines ≡ lines_code at n q before j lines
 lines_alike at m n p q before j [] same alike all = refl
 lines_alike at m n p q before j (line ∷ lines) same alike all =
-    let passed : Option ℕ = passed_by (q (suc j)) line lines in
+    let passed : Option Constant = passed_by (q (suc j)) line lines in
     ap (λ z. way_code at z (passed_by (p (suc j)) line lines) before line ++ lines_code at m p (passed_by (p (suc j)) line lines) (suc j) lines) (same j (omega arith) (omega arith))
     ∙ ap (λ z. way_code at (n j) z before line ++ lines_code at m p z (suc j) lines) (passed_alike (p (suc j)) (q (suc j)) line lines (λ some r small. alike (suc j) r (omega arith) (omega arith) small) (All-head IsMachineLine line lines all))
     ∙ ap (λ z. way_code at (n j) passed before line ++ z) (lines_alike at m n p q passed (suc j) lines (λ k a b. same k (omega arith) (omega arith)) (λ k r a b small. alike k r (omega arith) (omega arith) small) (All-tail IsMachineLine line lines all))

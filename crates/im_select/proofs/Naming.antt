@@ -6,6 +6,7 @@ use Rattle.im_num.specs.declared.kind.Kind.TheVariants.{I8, U8, I16, U16, I32, U
 use Rattle.im_num.specs.Kinds.{word}
 use Rattle.im_rv.specs.Decode.{Line as Instruction}
 use Rattle.im_rv.specs.Lines.{CodeLine}
+use Rattle.im_select_relation.specs.OperatorTables.{less_op}
 use Rattle.im_store.specs.declared.operators.UnaryOp.TheVariants.{Negate, Complement}
 use Rattle.im_store.specs.declared.operators.Comparison.TheVariants.{Less, Greater, LessOrEqual, GreaterOrEqual, Equal, NotEqual}
 use Rattle.im_store.specs.Objects.{Name, Slot}
@@ -19,11 +20,12 @@ use Rattle.im_select.specs.Leads.{led}
 use Rattle.im_select.specs.declared.branching.Test.{Test}
 use Rattle.im_select.specs.declared.distance.Distance.{Distance}
 use Rattle.im_select.specs.declared.distance.Distance.TheVariants.{Near, Far}
-use Rattle.im_select.specs.Emitted.{constant_code, displaced_code, adds_code, place_number, place_code, copied_code, scaled_code, address_code, computed_code, immediate_line, passed_by, by_or, stored_from, way_code, line_code, lines_code, behind_each, onward_code, test_code, test_or, taken_test, own_lines, is_next, branch_code, exit_code, is_empty, block_code, Laying, leads_of, next_label, found_code, laid_block, laid_code, laid_order, kept_order, blocks_code, enter_code, prologue_code, function_code, labelled, entry_label}
+use Rattle.im_select.specs.declared.folding.Constant.{Constant}
+use Rattle.im_select.specs.Emitted.{constant_code, displaced_code, adds_code, place_number, place_code, copied_code, scaled_code, address_code, computed_code, constant_line, comparison_line, compared_code, weighed_code, passed_by, by_or, stored_from, way_code, line_code, lines_code, behind_each, onward_code, test_code, test_or, taken_test, own_lines, is_next, branch_code, exit_code, is_empty, block_code, Laying, leads_of, next_label, found_code, laid_block, laid_code, laid_order, kept_order, blocks_code, enter_code, prologue_code, function_code, labelled, entry_label}
 use Rattle.im_select.specs.Selects.{accesses_in, causes_in, causes_of_line, causes_of_lines, causes_of_blocks, if_found, blocks_at, laid_blocks}
 use Rattle.im_select.proofs.Following.{kept_accesses, kept_causes}
 use Rattle.im_select.proofs.Taking.{IsTaken, Nothing, Comparing, Zeroing, zero_line, takes}
-use Rattle.im_select.proofs.Plain.{constant_bare, displaced_bare, adds_bare, place_bare, copied_bare, scaled_bare, address_bare, accesses_append, causes_append, bare_accesses, bare_causes, accesses_behind, causes_behind, accesses_labelled, causes_labelled}
+use Rattle.im_select.proofs.Plain.{weighed_bare, constant_bare, displaced_bare, adds_bare, place_bare, copied_bare, scaled_bare, address_bare, accesses_append, causes_append, bare_accesses, bare_causes, accesses_behind, causes_behind, accesses_labelled, causes_labelled}
 
 line_accesses : (at : Name → ℕ) (m : ℕ) (line : Line) → accesses_in (line_code at m line) ≡ accesses_of_line line
 line_accesses at m (Put to z) = bare_accesses (constant_code to (word z)) (constant_bare to (word z))
@@ -91,42 +93,58 @@ line_causes at m (Call to i first count) = refl
 line_causes at m (Serve to service None) = refl
 line_causes at m (Serve to service (Some from)) = refl
 
-way_accesses : (at : Name → ℕ) (m : ℕ) (passed before : Option ℕ) (line : Line) → accesses_in (way_code at m passed before line) ≡ accesses_of_line line
+way_accesses : (at : Name → ℕ) (m : ℕ) (passed before : Option Constant) (line : Line) → accesses_in (way_code at m passed before line) ≡ accesses_of_line line
 way_accesses at m None before (Put to z) = line_accesses at m (Put to z)
-way_accesses at m (Some n) before (Put to z) = refl
+way_accesses at m (Some c) before (Put to z) = refl
+way_accesses at m None before (PutNull to) = line_accesses at m (PutNull to)
+way_accesses at m (Some c) before (PutNull to) = refl
 way_accesses at m passed None (Compute to op kind left right) = refl
-way_accesses at m passed (Some n) (Compute to op kind left right) = by (immediate_line to op kind left n)
+way_accesses at m passed (Some c) (Compute to op kind left right) = by (constant_line to op kind left right c)
   where
-    by : (o : Option Instruction) → accesses_in (by_or (computed_code to op kind left right) o) ≡ []
+    by : (o : Option Instruction) → accesses_in (by_or (computed_code to op kind left right) o []) ≡ []
     by None = refl
     by (Some l) = refl
+way_accesses at m passed None (Compare to op kind left right) = line_accesses at m (Compare to op kind left right)
+way_accesses at m passed (Some c) (Compare to op kind left right) = by (comparison_line to op kind left right c)
+  where
+    by : (o : Option Instruction) → accesses_in (by_or (compared_code to (less_op kind) left right op) o (weighed_code to op c.word)) ≡ []
+    by None = line_accesses at m (Compare to op kind left right)
+    by (Some l) = bare_accesses (weighed_code to op c.word) (weighed_bare to op c.word)
 way_accesses at m passed before (Write place kind from access) = line_accesses at m (Write place kind (stored_from before from) access)
 way_accesses at m passed before line = line_accesses at m line
 
-way_causes : (at : Name → ℕ) (m : ℕ) (passed before : Option ℕ) (line : Line) → causes_in (way_code at m passed before line) ≡ causes_of_line line
+way_causes : (at : Name → ℕ) (m : ℕ) (passed before : Option Constant) (line : Line) → causes_in (way_code at m passed before line) ≡ causes_of_line line
 way_causes at m None before (Put to z) = line_causes at m (Put to z)
-way_causes at m (Some n) before (Put to z) = refl
+way_causes at m (Some c) before (Put to z) = refl
+way_causes at m None before (PutNull to) = line_causes at m (PutNull to)
+way_causes at m (Some c) before (PutNull to) = refl
 way_causes at m passed None (Compute to op kind left right) = refl
-way_causes at m passed (Some n) (Compute to op kind left right) = by (immediate_line to op kind left n)
+way_causes at m passed (Some c) (Compute to op kind left right) = by (constant_line to op kind left right c)
   where
-    by : (o : Option Instruction) → causes_in (by_or (computed_code to op kind left right) o) ≡ []
+    by : (o : Option Instruction) → causes_in (by_or (computed_code to op kind left right) o []) ≡ []
     by None = refl
     by (Some l) = refl
+way_causes at m passed None (Compare to op kind left right) = line_causes at m (Compare to op kind left right)
+way_causes at m passed (Some c) (Compare to op kind left right) = by (comparison_line to op kind left right c)
+  where
+    by : (o : Option Instruction) → causes_in (by_or (compared_code to (less_op kind) left right op) o (weighed_code to op c.word)) ≡ []
+    by None = line_causes at m (Compare to op kind left right)
+    by (Some l) = bare_causes (weighed_code to op c.word) (weighed_bare to op c.word)
 way_causes at m passed before (Write place kind from access) = line_causes at m (Write place kind (stored_from before from) access)
 way_causes at m passed before line = line_causes at m line
 
-lines_accesses : (at : Name → ℕ) (m : ℕ → ℕ) (needed : ℕ → ℕ → Bool) (before : Option ℕ) (j : ℕ) (lines : List Line) → accesses_in (lines_code at m needed before j lines) ≡ accesses_of_lines lines
+lines_accesses : (at : Name → ℕ) (m : ℕ → ℕ) (needed : ℕ → ℕ → Bool) (before : Option Constant) (j : ℕ) (lines : List Line) → accesses_in (lines_code at m needed before j lines) ≡ accesses_of_lines lines
 lines_accesses at m needed before j [] = refl
 lines_accesses at m needed before j (line ∷ lines) =
-    let passed : Option ℕ = passed_by (needed (suc j)) line lines in
+    let passed : Option Constant = passed_by (needed (suc j)) line lines in
     let own : List CodeLine = way_code at (m j) passed before line in
     let rest : List CodeLine = lines_code at m needed passed (suc j) lines in
     accesses_append own rest ∙ ap (λ z. z ++ accesses_in rest) (way_accesses at (m j) passed before line) ∙ ap (λ z. accesses_of_line line ++ z) (lines_accesses at m needed passed (suc j) lines)
 
-lines_causes : (at : Name → ℕ) (m : ℕ → ℕ) (needed : ℕ → ℕ → Bool) (before : Option ℕ) (j : ℕ) (lines : List Line) → causes_in (lines_code at m needed before j lines) ≡ causes_of_lines lines
+lines_causes : (at : Name → ℕ) (m : ℕ → ℕ) (needed : ℕ → ℕ → Bool) (before : Option Constant) (j : ℕ) (lines : List Line) → causes_in (lines_code at m needed before j lines) ≡ causes_of_lines lines
 lines_causes at m needed before j [] = refl
 lines_causes at m needed before j (line ∷ lines) =
-    let passed : Option ℕ = passed_by (needed (suc j)) line lines in
+    let passed : Option Constant = passed_by (needed (suc j)) line lines in
     let own : List CodeLine = way_code at (m j) passed before line in
     let rest : List CodeLine = lines_code at m needed passed (suc j) lines in
     causes_append own rest ∙ ap (λ z. z ++ causes_in rest) (way_causes at (m j) passed before line) ∙ ap (λ z. causes_of_line line ++ z) (lines_causes at m needed passed (suc j) lines)

@@ -1,17 +1,15 @@
 -- Exits, the lines of a block and the prologue: what is put for them is what may stand for them.
-use Rattle.std.proofs.Common.{◌≡◌, ◌<◌, ◌⊎◌, inl, inr, ℕ, ℤ, suc, ◌+◌, ◌-◌, ◌^◌, Bool, true, false, List, [], ◌∷◌, ◌++◌, Option, Some, None, length, drop, refl, sym, ap, ◌∙◌, subst, append_assoc, arith}
+use Rattle.std.proofs.Common.{◌≡◌, ◌<◌, ◌⊎◌, inl, inr, ℕ, suc, ◌+◌, ◌-◌, ◌^◌, Bool, true, false, List, [], ◌∷◌, ◌++◌, Option, Some, None, length, drop, refl, sym, ap, ◌∙◌, subst, append_assoc, arith}
 use Rattle.std.specs.Prelude.{◌&&◌, not, if◌then◌else◌, All}
 use Rattle.std.proofs.lemmas.List.Elements.{All-head, All-tail}
 use Rattle.im_num.specs.declared.kind.Kind.{Kind}
-use Rattle.im_num.specs.Kinds.{word}
 use Rattle.im_rv.specs.declared.instr.Op.TheVariants.{Jalr}
 use Rattle.im_rv.specs.Lines.{CodeLine, plain_line}
 use Rattle.im_rv_reach.specs.Instructions.{with_immediate, jumping}
-use Rattle.im_store.specs.declared.operators.BinaryOp.{BinaryOp}
 use Rattle.im_store.specs.Objects.{Name}
 use Rattle.im_block.specs.declared.code.Place.{Place}
 use Rattle.im_block.specs.declared.code.Line.{Line}
-use Rattle.im_block.specs.declared.code.Line.TheVariants.{Put, Compute, Compare, Write}
+use Rattle.im_block.specs.declared.code.Line.TheVariants.{Compute, Compare, Write}
 use Rattle.im_block.specs.declared.code.Block.{Block}
 use Rattle.im_block.specs.declared.code.Exit.{Exit}
 use Rattle.im_block.specs.declared.code.Exit.TheVariants.{Jump, Turn, Branch, Return}
@@ -20,15 +18,16 @@ use Rattle.im_block.specs.Wellformed.{ExitThere}
 use Rattle.im_alloc_placed.specs.Operands.{PlaceAtHome}
 use Rattle.im_alloc_placed.specs.Placed.{IsPlacedLine, IsPlacedExit}
 use Rattle.im_select.specs.Leads.{lead, led}
-use Rattle.im_select_relation.specs.Selected.{IsEntry, IsDead, IsUnread, IsZero, ZeroNumber, ZeroPointer, or_zero}
-use Rattle.im_select_relation.specs.Symbolic.{Lines, Plain, Aimed, JumpsIn, ContinuesIn, Falls, Leaps, TestedIn, Reached, Missed, Hopped, Skipped, LeavesIn, ExitIn, Decides, DecidesByZero, FoldedIn, ComputesBy, StoresZero, StandsIn, SelectedIn, Around, PrologueIn}
+use Rattle.im_select_relation.specs.Selected.{IsEntry, IsDead, IsUnread, IsSpent, IsConstant, ConstantNumber, ConstantNull, or_zero}
+use Rattle.im_select_relation.specs.Symbolic.{Lines, Plain, Aimed, JumpsIn, ContinuesIn, Falls, Leaps, TestedIn, Reached, Missed, Hopped, Skipped, LeavesIn, ExitIn, Decides, DecidesByZero, FoldedIn, ComputesBy, ComputesFrom, ComparesBy, StoresZero, StandsIn, SelectedIn, Around, PrologueIn}
 use Rattle.im_alloc_relation.specs.Live.{place_uses}
 use Rattle.im_live.specs.Reads.{lives_before, reads_first, IsLive}
+use Rattle.im_select.specs.declared.folding.Constant.{Constant}
 use Rattle.im_select.specs.declared.branching.Test.{Test}
 use Rattle.im_select.specs.declared.branching.Test.TheVariants.{Nonzero, Compares, ComparesZero}
 use Rattle.im_select.specs.declared.distance.Distance.{Distance}
 use Rattle.im_select.specs.declared.distance.Distance.TheVariants.{Near, Far}
-use Rattle.im_select.specs.Emitted.{adds_code, leave_code, is_next, onward_code, both_ways, test_line, test_code, branch_code, exit_code, word_taken, passed_by, place_number, place_code, keep_code, line_code, lines_code, enter_code, prologue_code}
+use Rattle.im_select.specs.Emitted.{adds_code, leave_code, is_next, onward_code, both_ways, test_line, test_code, branch_code, exit_code, passed_by, place_number, place_code, keep_code, line_code, way_code, weighed_code, lines_code, enter_code, prologue_code}
 use Rattle.im_select.specs.Given.{Given}
 use Rattle.im_select.specs.Places.{CallsBelow}
 use Rattle.im_select.specs.Selects.{Agrees, block_label}
@@ -36,7 +35,7 @@ use Rattle.im_select.proofs.Ordering.{same_number}
 use Rattle.im_select.proofs.Standing.{At, after, after_append, at_left, at_right}
 use Rattle.im_select.proofs.Taking.{IsTaken, Nothing, Comparing, Zeroing}
 use Rattle.im_select.proofs.Selecting.{Words, Sited, based_in, adds_in, selected_in}
-use Rattle.im_select.proofs.Pairing.{folds, immediate_of, lines_alone, lines_paired, lines_stored, zeroes, unread_in, spent_in}
+use Rattle.im_select.proofs.Pairing.{lines_alone, last_passes, pass_cases, Spent, Takes, OnRight, OnLeft, Weighs, Stores, passes, lines_paired, right_code, left_code, weighs_code, constant_small, immediate_of, weighs_in, unread_in}
 
 leaves_in : (w : Lines) (k frame : ℕ) → frame < 2 ^ 32 → At w k (leave_code frame) → LeavesIn w k frame
 leaves_in w k frame small a =
@@ -114,6 +113,10 @@ dead_from blocks live b r is small e n = by (reads_first blocks n b r) refl
     by true h = let all = is.all b r n small h in let bad : true ≡ false = sym all ∙ e in cc
     by false h = refl
 
+constant_home : (statics : ℕ) (f : Function) (line : Line) (r n : ℕ) → IsConstant line r n → IsPlacedLine statics f line → r < 32
+constant_home statics f line r n (ConstantNumber q n' z e) p = p.1
+constant_home statics f line r n (ConstantNull q) p = p.1
+
 -- what is left of a block but its own lines, and its exit
 taken_in : (w : Lines) (given : Given) (live : ℕ → ℕ → Bool) (starts : ℕ → ℕ) (distance : Distance) (next : Option ℕ) (bare : Bool) (k frame : ℕ) (tail : List Line) (exit : Exit) (taken : Option Test) → IsLive given.function.blocks.items live → Agrees w given → frame < 2 ^ 32 → IsBlockOf given tail exit → IsTaken live tail exit taken → Follows given starts next (after k (exit_code distance next bare given.first_block frame taken (led (leads_in given) exit))) → At w k (exit_code distance next bare given.first_block frame taken (led (leads_in given) exit)) → StandsIn w given.function.blocks.items starts frame k tail exit
 taken_in w given live starts distance next bare k frame tail exit taken is g small h (Nothing exit') follows a = exit_in w given starts k distance next bare frame exit g small h.leaves h.edges follows a
@@ -127,20 +130,52 @@ taken_in w given live starts distance next bare k frame tail exit taken is g sma
     let lines : List Line = Compare to op kind left right ∷ [] in
     let p = All-head (IsPlacedLine (length given.statics) given.function) (Compare to op kind left right) [] (All-tail (IsPlacedLine (length given.statics) given.function) line lines h.placed) in
     let low : to < 32 = p.0.1 in
-    let least : r < 32 = zero_home line r zero (All-head (IsPlacedLine (length given.statics) given.function) line lines h.placed) in
+    let least : r < 32 = constant_home (length given.statics) given.function line r 0 zero (All-head (IsPlacedLine (length given.statics) given.function) line lines h.placed) in
     inr (inl (DecidesByZero line r to op kind left right x y zero p.1 p.2 p.3 (dead_from blocks live x r is least sa) (dead_from blocks live y r is least sb) (dead_from blocks live x to is low da) (dead_from blocks live y to is low db) (branch_in w given starts k distance next (ComparesZero op kind (or_zero r left) (or_zero r right)) x y g h.edges.0 h.edges.1 follows a)))
-  where
-    zero_home : (line : Line) (r : ℕ) → IsZero line r → IsPlacedLine (length given.statics) given.function line → r < 32
-    zero_home line r (ZeroNumber r' z e) p = p.1
-    zero_home line r (ZeroPointer r') p = p.1
 
--- a store of zero
-stores_zero_in : (w : Lines) (blocks : List Block) (k m r : ℕ) (z : ℤ) (place : Place) (kind : Kind) (access : ℕ) (rest : List Line) (exit : Exit) → word z ≡ 0 → place_uses place r ≡ false → IsUnread blocks rest exit r → PlaceAtHome place → place_number w.at place < 2 ^ 32 → At w k (line_code w.at m (Write place kind 0 access)) → FoldedIn w blocks k (Put r z) (Write place kind r access) rest exit (after k (line_code w.at m (Write place kind 0 access)))
-stores_zero_in w blocks k m r z place kind access rest exit zero apart unread home small a =
-    let code : List CodeLine = place_code place (place_number w.at place) in
-    let s = at_right w k code _ a in
-    subst (FoldedIn w blocks k (Put r z) (Write place kind r access) rest exit) (sym (after_append k code _))
-    (StoresZero r z place kind access rest exit _ _ (after k code) zero apart unread (based_in w k place small home (at_left w k code _ a)) s.0)
+-- ---- a line that takes the constant before it
+
+module _ (w : Lines) (given : Given) (own : Name → ℕ) (live : ℕ → ℕ → Bool) (lives : ℕ → Bool) (k m : ℕ) (c : Constant) (rest : List Line) (exit : Exit) (is : IsLive given.function.blocks.items live) (low : c.register < 32) (small : c.word < 2 ^ 32) (behind : (r : ℕ) → lives r ≡ lives_before live rest exit r) where
+  abbrev blocks_ : List Block
+  blocks_ = given.function.blocks.items
+
+  abbrev Folds : Line → Type 0
+  Folds user = FoldedIn w blocks_ k c.register c.word user rest exit (after k (way_code own m None (Some c) user))
+
+  spent_there : (to : ℕ) → Spent lives to c.register → IsSpent blocks_ rest exit to c.register
+  spent_there to (inl e) = inl e
+  spent_there to (inr e) = inr (unread_in blocks_ live rest exit c.register is low (sym (behind c.register) ∙ e))
+
+  stores_zero_in : (place : Place) (kind : Kind) (access : ℕ) → c.word ≡ 0 → place_uses place c.register ≡ false → IsUnread blocks_ rest exit c.register → PlaceAtHome place → place_number w.at place < 2 ^ 32 → At w k (line_code w.at m (Write place kind 0 access)) → FoldedIn w blocks_ k c.register c.word (Write place kind c.register access) rest exit (after k (line_code w.at m (Write place kind 0 access)))
+  stores_zero_in place kind access zero apart unread home size a =
+      let code : List CodeLine = place_code place (place_number w.at place) in
+      let s = at_right w k code _ a in
+      subst (FoldedIn w blocks_ k c.register c.word (Write place kind c.register access) rest exit) (sym (after_append k code _))
+      (StoresZero place kind access rest exit _ _ (after k code) zero apart unread (based_in w k place size home (at_left w k code _ a)) s.0)
+
+  takes_in : (user : Line) → Takes lives c user → IsPlacedLine (length given.statics) given.function user → Words w.at user → Sited own w.at user → At w k (way_code own m None (Some c) user) → Folds user
+  takes_in user (OnRight to op kind left l ne spent e) p s t a =
+      let same = right_code to op kind left c l ne e in
+      let b : At w k (plain_line l ∷ []) = subst (At w k) same a in
+      let i = immediate_of to op kind left c.word l small e in
+      subst (λ x. FoldedIn w blocks_ k c.register c.word (Compute to op kind left c.register) rest exit (after k x)) (sym same)
+      (ComputesBy to op kind left rest exit i.by i.imm p.0 p.1 ne p.3 i.is (spent_there to spent) (subst (λ x. Plain w k x) i.line b.0))
+  takes_in user (OnLeft to op kind right l ne spent turns e) p s t a =
+      let same = left_code to op kind right c l ne turns e in
+      let b : At w k (plain_line l ∷ []) = subst (At w k) same a in
+      let i = immediate_of to op kind right c.word l small e in
+      subst (λ x. FoldedIn w blocks_ k c.register c.word (Compute to op kind c.register right) rest exit (after k x)) (sym same)
+      (ComputesFrom to op kind right rest exit i.by i.imm p.0 p.2 ne p.3 turns i.is (spent_there to spent) (subst (λ x. Plain w k x) i.line b.0))
+  takes_in user (Weighs to op kind left l ne spent e) p s t a =
+      let same = weighs_code to op kind left c l ne e in
+      let b : At w k (plain_line l ∷ weighed_code to op c.word) = subst (At w k) same a in
+      subst (λ x. FoldedIn w blocks_ k c.register c.word (Compare to op kind left c.register) rest exit (after k x)) (sym same)
+      (ComparesBy to op kind left rest exit _ p.0 p.1 ne p.3 (spent_there to spent) (weighs_in w k to op kind left c.word l small e b))
+  takes_in user (Stores place kind access zero apart unread) p s t a =
+      let same : line_code own m (Write place kind 0 access) ≡ line_code w.at m (Write place kind 0 access) = ap (keep_code place kind 0 access) t in
+      let dead = unread_in blocks_ live rest exit c.register is low (sym (behind c.register) ∙ unread) in
+      subst (λ x. FoldedIn w blocks_ k c.register c.word (Write place kind c.register access) rest exit (after k x)) (sym same)
+      (stores_zero_in place kind access zero apart dead p.1 s (subst (At w k) same a))
 
 -- what lives behind the lines that are left: number j is the first of them
 abbrev pub IsBehind : (ℕ → ℕ → Bool) → (ℕ → ℕ → Bool) → ℕ → List Line → Exit → Type 0
@@ -148,10 +183,6 @@ IsBehind live needed j lines exit = (i r : ℕ) → needed (i + j) r ≡ lives_b
 
 pub behind_tail : (live needed : ℕ → ℕ → Bool) (j : ℕ) (line : Line) (lines : List Line) (exit : Exit) → IsBehind live needed j (line ∷ lines) exit → IsBehind live needed (suc j) lines exit
 behind_tail live needed j line lines exit h = λ i r. (let q : i + suc j ≡ suc i + j = omega arith in ap (λ z. needed z r) q ∙ h (suc i) r)
-
-pub word_cases : {X : Type 0} (o : Option ℕ) → (o ≡ None → X) → ((n : ℕ) → o ≡ Some n → X) → X
-word_cases None f g = f refl
-word_cases (Some n) f g = g n refl
 
 module _ (w : Lines) (given : Given) (live : ℕ → ℕ → Bool) (starts : ℕ → ℕ) (own : Name → ℕ) (m : ℕ → ℕ) (needed : ℕ → ℕ → Bool) (distance : Distance) (next : Option ℕ) (bare : Bool) (frame : ℕ) (tail : List Line) (exit : Exit) (taken : Option Test) (o : (j : ℕ) → IsEntry (m j)) (is : IsLive given.function.blocks.items live) (g : Agrees w given) (small : frame < 2 ^ 32) (alike : Alike own w.at (length given.statics) given.function) (t : IsTaken live tail exit taken) where
   abbrev last : List CodeLine
@@ -185,73 +216,39 @@ module _ (w : Lines) (given : Given) (live : ℕ → ℕ → Bool) (starts : ℕ
         later (λ n e. sym (after_append k head rest) ∙ ap (after k) (sym joined) ∙ follows n e) (at_right w k head rest b),
       )
 
-  folded : (j k r : ℕ) (z : ℤ) (to : ℕ) (op : BinaryOp) (kind : Kind) (left right : ℕ) (lines : List Line) (n : ℕ) → word_taken (needed (suc j)) r (word z) (Compute to op kind left right) ≡ Some n → IsBehind live needed j ((Put r z ∷ Compute to op kind left right ∷ lines) ++ tail) exit → IsBlockOf given ((Put r z ∷ Compute to op kind left right ∷ lines) ++ tail) exit → Goes (suc k) (code (suc (suc j)) lines) (Stood (suc k) lines) → Goes k (code j (Put r z ∷ Compute to op kind left right ∷ lines)) (Stood k (Put r z ∷ Compute to op kind left right ∷ lines))
-  folded j k r z to op kind left right lines n e behind h later follows a =
+  paired : (j k : ℕ) (line user : Line) (lines : List Line) (c : Constant) → passed_by (needed (suc j)) line (user ∷ lines) ≡ Some c → IsBehind live needed j ((line ∷ user ∷ lines) ++ tail) exit → IsBlockOf given ((line ∷ user ∷ lines) ++ tail) exit → Goes (after k (way_code own (m (suc j)) None (Some c) user)) (code (suc (suc j)) lines) (Stood (after k (way_code own (m (suc j)) None (Some c) user)) lines) → Goes k (code j (line ∷ user ∷ lines)) (Stood k (line ∷ user ∷ lines))
+  paired j k line user lines c e behind h later follows a =
       let statics : ℕ = length given.statics in
       let f : Function = given.function in
-      let blocks : List Block = f.blocks.items in
-      let user : Line = Compute to op kind left right in
-      let d = folds (needed (suc j)) r (word z) to op kind left right n e in
-      let i = immediate_of to op kind left z d.line d.is in
-      let taken_is : word_taken (needed (suc j)) r (word z) user ≡ Some (word z) = e ∙ ap Some d.same in
-      let head : CodeLine = plain_line d.line in
-      let joined : code j (Put r z ∷ user ∷ lines) ≡ head ∷ code (suc (suc j)) lines = ap (λ x. x ++ last) (lines_paired own m needed j r z to op kind left right lines (word z) d.line taken_is d.is) in
-      let b : At w k (head ∷ code (suc (suc j)) lines) = subst (At w k) joined a in
-      let put = All-head (IsPlacedLine statics f) (Put r z) (user ∷ (lines ++ tail)) h.placed in
-      let p = All-head (IsPlacedLine statics f) user (lines ++ tail) (All-tail (IsPlacedLine statics f) (Put r z) (user ∷ (lines ++ tail)) h.placed) in
-      let spent : (r ≡ to) ⊎ (lives_before live (lines ++ tail) exit r ≡ false) = elim d.spent [ inl x ↦ inl x | inr x ↦ inr (let q : 1 + j ≡ suc j = omega arith in sym (behind 1 r) ∙ ap (λ x. needed x r) q ∙ x) ] in
-      let here : FoldedIn w blocks k (Put r z) (Compute to op kind left r) (lines ++ tail) exit (suc k) =
-      ComputesBy r z to op kind left (lines ++ tail) exit i.by i.imm p.0 p.1 d.apart p.3 i.is (spent_in blocks live (lines ++ tail) exit to r is put.1 spent) (subst (λ x. Plain w k x) i.line b.0) in
-      inr (inr (
-        suc k,
-        subst (λ x. FoldedIn w blocks k (Put r z) (Compute to op kind left x) (lines ++ tail) exit (suc k)) (sym d.right_is) here,
-        later (λ n e. ap (after k) (sym joined) ∙ follows n e) b.1,
-      ))
-
-  stored : (j k r : ℕ) (z : ℤ) (place : Place) (kind : Kind) (from access : ℕ) (lines : List Line) (n : ℕ) → word_taken (needed (suc j)) r (word z) (Write place kind from access) ≡ Some n → IsBehind live needed j ((Put r z ∷ Write place kind from access ∷ lines) ++ tail) exit → IsBlockOf given ((Put r z ∷ Write place kind from access ∷ lines) ++ tail) exit → Goes (after k (line_code own (m (suc j)) (Write place kind 0 access))) (code (suc (suc j)) lines) (Stood (after k (line_code own (m (suc j)) (Write place kind 0 access))) lines) → Goes k (code j (Put r z ∷ Write place kind from access ∷ lines)) (Stood k (Put r z ∷ Write place kind from access ∷ lines))
-  stored j k r z place kind from access lines n e behind h later follows a =
-      let statics : ℕ = length given.statics in
-      let f : Function = given.function in
-      let blocks : List Block = f.blocks.items in
-      let user : Line = Write place kind from access in
-      let zeroed : Line = Write place kind 0 access in
-      let d = zeroes (needed (suc j)) r (word z) place kind from access n e in
-      let head : List CodeLine = line_code own (m (suc j)) zeroed in
+      let head : List CodeLine = way_code own (m (suc j)) None (Some c) user in
       let rest : List CodeLine = code (suc (suc j)) lines in
-      let joined : code j (Put r z ∷ user ∷ lines) ≡ head ++ rest = ap (λ x. x ++ last) (lines_stored own m needed j r z place kind from access lines n e) ∙ append_assoc head (lines_code own m needed None (suc (suc j)) lines) last in
+      let joined : code j (line ∷ user ∷ lines) ≡ head ++ rest = ap (λ x. x ++ last) (lines_paired own m needed j line user lines c e) ∙ append_assoc head (lines_code own m needed None (suc (suc j)) lines) last in
       let b : At w k (head ++ rest) = subst (At w k) joined a in
-      let put = All-head (IsPlacedLine statics f) (Put r z) (user ∷ (lines ++ tail)) h.placed in
-      let p = All-head (IsPlacedLine statics f) user (lines ++ tail) (All-tail (IsPlacedLine statics f) (Put r z) (user ∷ (lines ++ tail)) h.placed) in
+      let d = passes (needed (suc j)) line user lines c e in
+      let first = All-head (IsPlacedLine statics f) line (user ∷ (lines ++ tail)) h.placed in
+      let p = All-head (IsPlacedLine statics f) user (lines ++ tail) (All-tail (IsPlacedLine statics f) line (user ∷ (lines ++ tail)) h.placed) in
+      let low : c.register < 32 = constant_home statics f line c.register c.word d.constant first in
+      let there : (r : ℕ) → needed (suc j) r ≡ lives_before live (lines ++ tail) exit r = λ r. (let q : 1 + j ≡ suc j = omega arith in sym (ap (λ x. needed x r) q) ∙ behind 1 r) in
       let known = alike (m (suc j)) user p in
-      let same : head ≡ line_code w.at (m (suc j)) zeroed = ap (keep_code place kind 0 access) known.2 in
-      let dead : lives_before live (lines ++ tail) exit r ≡ false = (let q : 1 + j ≡ suc j = omega arith in sym (behind 1 r) ∙ ap (λ x. needed x r) q ∙ d.unread) in
-      let zero_in = stores_zero_in w blocks k (m (suc j)) r z place kind access (lines ++ tail) exit d.zero d.apart (unread_in blocks live (lines ++ tail) exit r is put.1 dead) p.1 known.1 (subst (At w k) same (at_left w k head rest b)) in
-      let here : FoldedIn w blocks k (Put r z) user (lines ++ tail) exit (after k head) =
-      subst (λ x. FoldedIn w blocks k (Put r z) (Write place kind x access) (lines ++ tail) exit (after k head)) (sym d.from_is) (subst (λ c. FoldedIn w blocks k (Put r z) (Write place kind r access) (lines ++ tail) exit (after k c)) (sym same) zero_in) in
       inr (inr (
+        c.register,
+        c.word,
         after k head,
-        here,
+        d.constant,
+        takes_in w given own live (needed (suc j)) k (m (suc j)) c (lines ++ tail) exit is low (constant_small line c.register c.word d.constant) there user d.takes p known.1 known.2 (at_left w k head rest b),
         later (λ n e. sym (after_append k head rest) ∙ ap (after k) (sym joined) ∙ follows n e) (at_right w k head rest b),
       ))
 
   pub stands_in : (j k : ℕ) (lines : List Line) → IsBehind live needed j (lines ++ tail) exit → IsBlockOf given (lines ++ tail) exit → Goes k (code j lines) (Stood k lines)
   stands_in j k [] behind h follows a = taken_in w given live starts distance next bare k frame tail exit taken is g small h t follows a
-  stands_in j k (Put r z ∷ Compute to op kind left right ∷ lines) behind h follows a =
-      let user : Line = Compute to op kind left right in
-      let behind' = behind_tail live needed j (Put r z) (user ∷ (lines ++ tail)) exit behind in
-      let h' = tail_of given (Put r z) (user ∷ (lines ++ tail)) exit h in
-      word_cases (word_taken (needed (suc j)) r (word z) user)
-      (λ e. alone j k (Put r z) (user ∷ lines) e h (λ follows b. stands_in (suc j) (after k (line_code own (m j) (Put r z))) (Compute to op kind left right ∷ lines) behind' h' follows b) follows a)
-      (λ n e. folded j k r z to op kind left right lines n e behind h (λ follows b. stands_in (suc (suc j)) (suc k) lines (behind_tail live needed (suc j) user (lines ++ tail) exit behind') (tail_of given user (lines ++ tail) exit h') follows b) follows a)
-  stands_in j k (Put r z ∷ Write place kind from access ∷ lines) behind h follows a =
-      let user : Line = Write place kind from access in
-      let behind' = behind_tail live needed j (Put r z) (user ∷ (lines ++ tail)) exit behind in
-      let h' = tail_of given (Put r z) (user ∷ (lines ++ tail)) exit h in
-      word_cases (word_taken (needed (suc j)) r (word z) user)
-      (λ e. alone j k (Put r z) (user ∷ lines) e h (λ follows b. stands_in (suc j) (after k (line_code own (m j) (Put r z))) (Write place kind from access ∷ lines) behind' h' follows b) follows a)
-      (λ n e. stored j k r z place kind from access lines n e behind h (λ follows b. stands_in (suc (suc j)) (after k (line_code own (m (suc j)) (Write place kind 0 access))) lines (behind_tail live needed (suc j) user (lines ++ tail) exit behind') (tail_of given user (lines ++ tail) exit h') follows b) follows a)
-  stands_in j k (line ∷ lines) behind h follows a =
-      alone j k line lines refl h (λ follows b. stands_in (suc j) (after k (line_code own (m j) line)) lines (behind_tail live needed j line (lines ++ tail) exit behind) (tail_of given line (lines ++ tail) exit h) follows b) follows a
+  stands_in j k (line ∷ []) behind h follows a =
+      alone j k line [] (last_passes (needed (suc j)) line) h (λ follows b. stands_in (suc j) (after k (line_code own (m j) line)) [] (behind_tail live needed j line tail exit behind) (tail_of given line tail exit h) follows b) follows a
+  stands_in j k (line ∷ user ∷ lines) behind h follows a =
+      let behind' = behind_tail live needed j line (user ∷ (lines ++ tail)) exit behind in
+      let h' = tail_of given line (user ∷ (lines ++ tail)) exit h in
+      pass_cases (passed_by (needed (suc j)) line (user ∷ lines))
+      (λ e. alone j k line (user ∷ lines) e h (λ follows b. stands_in (suc j) (after k (line_code own (m j) line)) (user ∷ lines) behind' h' follows b) follows a)
+      (λ c e. paired j k line user lines c e behind h (λ follows b. stands_in (suc (suc j)) (after k (way_code own (m (suc j)) None (Some c) user)) lines (behind_tail live needed (suc j) user (lines ++ tail) exit behind') (tail_of given user (lines ++ tail) exit h') follows b) follows a)
 
 -- the prologue falls into the entry
 pub prologue_in : (w : Lines) (given : Given) (starts : ℕ → ℕ) (frame entry : ℕ) → Agrees w given → 0 < frame → after 0 (prologue_code frame) ≡ starts entry → At w 0 (prologue_code frame) → PrologueIn w starts 0 frame entry

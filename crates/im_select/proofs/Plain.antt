@@ -1,12 +1,15 @@
 -- What lists of lines have beside their instructions: labels, targets, accesses, causes.
 use Rattle.std.proofs.Common.{◌≡◌, ◌<◌, ◌⊎◌, inl, inr, ℕ, zero, suc, ◌+◌, Bool, true, false, List, [], ◌∷◌, ◌++◌, Option, Some, None, length, refl, ap, ◌∙◌, subst, arith}
 use Rattle.std.specs.Prelude.{◌==◌, if◌then◌else◌, slice_get}
+use Rattle.im_rv.specs.declared.instr.Op.TheVariants.{Sltiu, Sltu}
 use Rattle.im_rv.specs.Lines.{CodeLine, plain_line}
-use Rattle.im_rv_reach.specs.Instructions.{upper}
+use Rattle.im_rv_reach.specs.Instructions.{with_immediate, on_registers, upper}
+use Rattle.im_store.specs.declared.operators.Comparison.{Comparison}
+use Rattle.im_store.specs.declared.operators.Comparison.TheVariants.{Less, Greater, LessOrEqual, GreaterOrEqual, Equal, NotEqual}
 use Rattle.im_block.specs.declared.code.Place.{Place}
 use Rattle.im_block.specs.declared.code.Place.TheVariants.{Static, Local, Through}
 use Rattle.im_select.specs.Given.{Given}
-use Rattle.im_select.specs.Emitted.{high_of, low_of, constant_by, constant_code, displaced_by, displaced_code, adds_by, adds_code, place_code, moved_code, copied_code, shift_of, shifts_code, scaled_code, based_code, address_code, labelled}
+use Rattle.im_select.specs.Emitted.{high_of, low_of, constant_by, constant_code, displaced_by, displaced_code, adds_by, adds_code, place_code, moved_code, copied_code, shift_of, shifts_code, scaled_code, based_code, address_code, weighed_code, labelled}
 use Rattle.im_select.specs.Selects.{if_any, accesses_in, causes_in, HasLabel, LeadsTo}
 
 -- instructions and nothing else
@@ -205,3 +208,20 @@ label_split (x ∷ xs) ys (suc k) l h =
 pub length_labelled : (l : ℕ) (xs : List CodeLine) → length (labelled l xs) ≡ length xs
 length_labelled l [] = refl
 length_labelled l (x ∷ xs) = refl
+
+-- behind the first instruction of a comparison with a word
+pub weighed_bare : (to : ℕ) (op : Comparison) (n : ℕ) → Bare (weighed_code to op n)
+weighed_bare to Less n = tt
+weighed_bare to Greater n = (refl, tt)
+weighed_bare to LessOrEqual n = tt
+weighed_bare to GreaterOrEqual n = (refl, tt)
+weighed_bare to Equal n = by (n == 0)
+  where
+    by : (b : Bool) → Bare (if b then [] else plain_line (with_immediate Sltiu to 5 1) ∷ [])
+    by true = tt
+    by false = (refl, tt)
+weighed_bare to NotEqual n = by (n == 0)
+  where
+    by : (b : Bool) → Bare (if b then [] else plain_line (on_registers Sltu to 0 5) ∷ [])
+    by true = tt
+    by false = (refl, tt)

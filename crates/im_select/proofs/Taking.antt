@@ -14,7 +14,7 @@ use Rattle.im_block.specs.declared.code.Line.{Line}
 use Rattle.im_block.specs.declared.code.Line.TheVariants.{Put, PutNull, Compare}
 use Rattle.im_block.specs.declared.code.Exit.{Exit}
 use Rattle.im_block.specs.declared.code.Exit.TheVariants.{Jump, Turn, Branch, Return}
-use Rattle.im_select_relation.specs.Selected.{IsZero, ZeroNumber, ZeroPointer, or_zero}
+use Rattle.im_select_relation.specs.Selected.{IsZero, ConstantNumber, ConstantNull, or_zero}
 use Rattle.im_select.specs.declared.branching.Test.{Test}
 use Rattle.im_select.specs.declared.branching.Test.TheVariants.{Nonzero, Compares, ComparesZero}
 use Rattle.im_select.specs.Emitted.{test_op, taken_by, zero_of, by_zero, taken_test, but_last, own_lines}
@@ -64,16 +64,16 @@ longer live line next exit taken e t = record { tail = t.tail; whole = ap (λ z.
 
 -- by what such a line is
 pub zero_line : (X : Line → Type 0) (line : Line) (r : ℕ) → IsZero line r → ((z : ℤ) → X (Put r z)) → X (PutNull r) → X line
-zero_line X line r (ZeroNumber q z e) put null = put z
-zero_line X line r (ZeroPointer q) put null = null
+zero_line X line r (ConstantNumber q n z e) put null = put z
+zero_line X line r (ConstantNull q) put null = null
 
 zero_is : (line : Line) (r : ℕ) → zero_of line ≡ Some r → IsZero line r
 zero_is (Put to z) r e = by (word z == 0) refl e
   where
     by : (t : Bool) → (word z == 0) ≡ t → (if t then Some to else None) ≡ Some r → IsZero (Put to z) r
-    by true f v = let same : to ≡ r = cc in subst (λ q. IsZero (Put to z) q) same (ZeroNumber to z (same_number (word z) 0 f))
+    by true f v = let same : to ≡ r = cc in subst (λ q. IsZero (Put to z) q) same (ConstantNumber to 0 z (same_number (word z) 0 f))
     by false f v = absurd cc
-zero_is (PutNull to) r e = let same : to ≡ r = cc in subst (λ q. IsZero (PutNull to) q) same (ZeroPointer to)
+zero_is (PutNull to) r e = let same : to ≡ r = cc in subst (λ q. IsZero (PutNull to) q) same (ConstantNull to)
 zero_is line r e = absurd cc
 
 -- a zero and a comparison, by the answers of the tests

@@ -9,7 +9,7 @@ use Rattle.im_rv.specs.declared.instr.Op.TheVariants.{Jalr, Bgeu, Lw, Sw, Addi, 
 use Rattle.im_rv.specs.Decode.{Line as Instruction}
 use Rattle.im_rv.specs.Lines.{CodeLine, plain_line}
 use Rattle.im_rv_reach.specs.Instructions.{with_immediate, on_registers, storing, branching, upper, jumping}
-use Rattle.im_select_relation.specs.OperatorTables.{load_op, store_op, by_sign, operation, less_op}
+use Rattle.im_select_relation.specs.OperatorTables.{load_op, store_op, by_sign, operation, commutes, less_op, less_by, least}
 use Rattle.im_store.specs.declared.operators.BinaryOp.{BinaryOp}
 use Rattle.im_store.specs.declared.operators.BinaryOp.TheVariants.{Add, Subtract, BitAnd, BitOr, BitXor, ShiftLeft, ShiftRight}
 use Rattle.im_store.specs.declared.operators.UnaryOp.{UnaryOp}
@@ -29,6 +29,7 @@ use Rattle.im_live.specs.Reads.{lives_before}
 use Rattle.im_live.specs.Words.{has}
 use Rattle.im_select.specs.Leads.{lead, led, kept}
 use Rattle.im_select_relation.specs.Selected.{ones, Test as BothWays, nonzero, comparing, or_zero}
+use Rattle.im_select.specs.declared.folding.Constant.{Constant}
 use Rattle.im_select.specs.declared.branching.Test.{Test}
 use Rattle.im_select.specs.declared.branching.Test.TheVariants.{Nonzero, Compares, ComparesZero}
 use Rattle.im_select.specs.declared.distance.Distance.{Distance}
@@ -224,7 +225,7 @@ line_code at m (Cut cause) = cut_code m cause
 line_code at m (Call to function first count) = call_code 1 (entry_label function)
 line_code at m (Serve to service from) = call_code 1 (service_label service)
 
--- ---- a constant as the immediate of the line that uses it (RISC-V Unprivileged ISA, 2.4)
+-- ---- a constant as the immediate of the line that uses it, or as x0 (RISC-V Unprivileged ISA, 2.1, 2.4)
 
 -- with an immediate of twelve bits, where a word is one with its sign
 abbrev pub by_low : Op → ℕ → ℕ → ℕ → Option Instruction
@@ -248,51 +249,104 @@ immediate_line to ShiftLeft kind left n = by_bits Slli to left n
 immediate_line to ShiftRight kind left n = by_bits (by_sign kind Srai Srli) to left n
 immediate_line to op kind left n = None
 
--- the word that a line takes from the line before it, which puts it into register r: as its immediate, or 0 by x0. Nothing reads r behind
--- the line. lives: what lives there
-abbrev pub word_taken : (ℕ → Bool) → ℕ → ℕ → Line → Option ℕ
-word_taken lives r n (Compute to op kind left right) = if right == r && (not (left == r || (not (r == to) && lives r)) && is_some (immediate_line to op kind left n)) then Some n else None
-word_taken lives r n (Write place kind from access) = if n == 0 && (from == r && not (place_uses place r || lives r)) then Some n else None
-word_taken lives r n line = None
+-- so with a constant in a register, which is one of its operands
+abbrev pub constant_line : ℕ → BinaryOp → Kind → ℕ → ℕ → Constant → Option Instruction
+constant_line to op kind left right c = if right == c.register then (if left == c.register then None else immediate_line to op kind left c.word) else (if left == c.register && commutes op then immediate_line to op kind right c.word else None)
+
+-- the word behind a word
+abbrev pub above : ℕ → ℕ
+above n = (n + 1) % 2 ^ 32
+
+-- whether a register is less than a word, unless no word is
+abbrev pub below_line : ℕ → Kind → ℕ → ℕ → Option Instruction
+below_line to kind left n = if n == least kind then None else by_low (less_by kind) to left n
+
+-- whether a register is 0, or another word, into `to`; or its difference from that into x5
+abbrev pub equal_line : ℕ → ℕ → ℕ → Option Instruction
+equal_line to left n = if n == 0 then Some (with_immediate Sltiu to left 1) else by_low Addi 5 left (negated n)
+
+abbrev pub unequal_line : ℕ → ℕ → ℕ → Option Instruction
+unequal_line to left n = if n == 0 then Some (on_registers Sltu to 0 left) else by_low Addi 5 left (negated n)
+
+-- a comparison with a word on its right: its first instruction, if there is one with an immediate
+abbrev pub weighing_line : ℕ → Comparison → Kind → ℕ → ℕ → Option Instruction
+weighing_line to Less kind left n = by_low (less_by kind) to left n
+weighing_line to Greater kind left n = below_line to kind left (above n)
+weighing_line to LessOrEqual kind left n = below_line to kind left (above n)
+weighing_line to GreaterOrEqual kind left n = by_low (less_by kind) to left n
+weighing_line to Equal kind left n = equal_line to left n
+weighing_line to NotEqual kind left n = unequal_line to left n
+
+-- and what is behind that
+abbrev pub weighed_code : ℕ → Comparison → ℕ → List CodeLine
+weighed_code to Less n = []
+weighed_code to Greater n = plain_line (with_immediate Xori to to 1) ∷ []
+weighed_code to LessOrEqual n = []
+weighed_code to GreaterOrEqual n = plain_line (with_immediate Xori to to 1) ∷ []
+weighed_code to Equal n = if n == 0 then [] else plain_line (with_immediate Sltiu to 5 1) ∷ []
+weighed_code to NotEqual n = if n == 0 then [] else plain_line (on_registers Sltu to 0 5) ∷ []
+
+-- so with a constant in a register, which is its right operand
+abbrev pub comparison_line : ℕ → Comparison → Kind → ℕ → ℕ → Constant → Option Instruction
+comparison_line to op kind left right c = if right == c.register && not (left == c.register) then weighing_line to op kind left c.word else None
+
+-- a register isn't read behind a line that sets `to`. lives: what lives there
+abbrev pub is_spent : (ℕ → Bool) → ℕ → ℕ → Bool
+is_spent lives to r = r == to || not (lives r)
+
+-- whether a line takes the constant before it, as its immediate or as x0. Nothing reads the constant's register behind it
+abbrev pub is_taken : (ℕ → Bool) → Constant → Line → Bool
+is_taken lives c (Compute to op kind left right) = is_some (constant_line to op kind left right c) && is_spent lives to c.register
+is_taken lives c (Compare to op kind left right) = is_some (comparison_line to op kind left right c) && is_spent lives to c.register
+is_taken lives c (Write place kind from access) = c.word == 0 && (from == c.register && not (place_uses place c.register || lives c.register))
+is_taken lives c line = false
 
 -- lives: what lives behind the first of these lines
-abbrev pub word_spent : (ℕ → Bool) → ℕ → ℕ → List Line → Option ℕ
-word_spent lives r n [] = None
-word_spent lives r n (user ∷ rest) = word_taken lives r n user
+abbrev pub passed_to : (ℕ → Bool) → Constant → List Line → Option Constant
+passed_to lives c [] = None
+passed_to lives c (user ∷ rest) = if is_taken lives c user then Some c else None
 
 -- what a line passes to the lines behind it
-abbrev pub passed_by : (ℕ → Bool) → Line → List Line → Option ℕ
-passed_by lives (Put to number) rest = word_spent lives to (word number) rest
+abbrev pub passed_by : (ℕ → Bool) → Line → List Line → Option Constant
+passed_by lives (Put to number) rest = passed_to lives (record { register = to; word = word number }) rest
+passed_by lives (PutNull to) rest = passed_to lives (record { register = to; word = 0 }) rest
 passed_by lives line rest = None
 
 -- no line for a constant that is passed on
-abbrev pub put_code : Option ℕ → ℕ → ℕ → List CodeLine
-put_code None to n = constant_code to n
-put_code (Some passed) to n = []
+abbrev pub put_code : Option Constant → List CodeLine → List CodeLine
+put_code None code = code
+put_code (Some c) code = []
 
-abbrev pub by_or : List CodeLine → Option Instruction → List CodeLine
-by_or code None = code
-by_or code (Some l) = plain_line l ∷ []
+-- these lines, or an instruction and what is behind it
+abbrev pub by_or : List CodeLine → Option Instruction → List CodeLine → List CodeLine
+by_or code None rest = code
+by_or code (Some l) rest = plain_line l ∷ rest
 
--- with a word that the line before it passed
-abbrev pub operated_code : Option ℕ → ℕ → BinaryOp → Kind → ℕ → ℕ → List CodeLine
+-- with a constant that the line before it passed
+abbrev pub operated_code : Option Constant → ℕ → BinaryOp → Kind → ℕ → ℕ → List CodeLine
 operated_code None to op kind left right = computed_code to op kind left right
-operated_code (Some n) to op kind left right = by_or (computed_code to op kind left right) (immediate_line to op kind left n)
+operated_code (Some c) to op kind left right = by_or (computed_code to op kind left right) (constant_line to op kind left right c) []
+
+abbrev pub decided_code : Option Constant → ℕ → Comparison → Kind → ℕ → ℕ → List CodeLine
+decided_code None to op kind left right = compared_code to (less_op kind) left right op
+decided_code (Some c) to op kind left right = by_or (compared_code to (less_op kind) left right op) (comparison_line to op kind left right c) (weighed_code to op c.word)
 
 -- the register that is stored, or x0 for a zero that the line before it passed
-abbrev pub stored_from : Option ℕ → ℕ → ℕ
+abbrev pub stored_from : Option Constant → ℕ → ℕ
 stored_from None from = from
-stored_from (Some n) from = 0
+stored_from (Some c) from = 0
 
--- passed: the word that the line passes to the next; before: the one that the line before passed to it
-abbrev pub way_code : (Name → ℕ) → ℕ → Option ℕ → Option ℕ → Line → List CodeLine
-way_code at m passed before (Put to number) = put_code passed to (word number)
+-- passed: the constant that the line passes to the next; before: the one that the line before passed to it
+abbrev pub way_code : (Name → ℕ) → ℕ → Option Constant → Option Constant → Line → List CodeLine
+way_code at m passed before (Put to number) = put_code passed (constant_code to (word number))
+way_code at m passed before (PutNull to) = put_code passed (moved_code to 0)
 way_code at m passed before (Compute to op kind left right) = operated_code before to op kind left right
+way_code at m passed before (Compare to op kind left right) = decided_code before to op kind left right
 way_code at m passed before (Write place kind from access) = line_code at m (Write place kind (stored_from before from) access)
 way_code at m passed before line = line_code at m line
 
 -- lines from number j on; m: the entries of a block's lines; needed: what lives behind each; before: what the line before them passed
-abbrev pub lines_code : (Name → ℕ) → (ℕ → ℕ) → (ℕ → ℕ → Bool) → Option ℕ → ℕ → List Line → List CodeLine
+abbrev pub lines_code : (Name → ℕ) → (ℕ → ℕ) → (ℕ → ℕ → Bool) → Option Constant → ℕ → List Line → List CodeLine
 lines_code at m needed before j [] = []
 lines_code at m needed before j (line ∷ lines) = way_code at (m j) (passed_by (needed (suc j)) line lines) before line ++ lines_code at m needed (passed_by (needed (suc j)) line lines) (suc j) lines
 

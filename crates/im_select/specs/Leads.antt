@@ -1,4 +1,5 @@
--- Where blocks lead: no line is put for a block that only jumps, and who goes to it goes where it leads.
+-- Where blocks lead: no line is put for a block that only jumps to a block of a lower number, where such blocks are few, and who goes to
+-- it goes where it leads; the entry has its line.
 use Rattle.std.specs.Prelude.{◌≡◌, ◌<◌, ℕ, zero, suc, ◌==◌, ◌&&◌, nat_lt, not, Bool, if◌then◌else◌, List, [], ◌∷◌, Option, Some, None, length, slice_get, slice_index}
 use Rattle.im_block.specs.declared.code.Exit.{Exit}
 use Rattle.im_block.specs.declared.code.Exit.TheVariants.{Jump, Turn, Branch, Return}

@@ -100,7 +100,7 @@ pub(crate) fn push_not(lines: &mut Vec<Line>, to: u32, from: u32) -> Result<(), 
 }
 
 /// Whether operations on a kind look at signs.
-fn is_signed(kind: Kind) -> bool
+pub(crate) fn is_signed(kind: Kind) -> bool
     ensures { result ≡ kinds.is_signed kind }
 {
     matches!(kind, Kind::I8 | Kind::I16 | Kind::I32)

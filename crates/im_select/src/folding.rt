@@ -9,9 +9,11 @@ ghost use Rattle.im_alloc_relation.specs.Live.{place_uses};
 ghost use Rattle.im_live.specs.Words.{has, IsMachineLine};
 ghost use Rattle.im_select.specs.Given.{given};
 ghost use Rattle.im_select.specs.Places.{at_of, HasPlaces, CallsBelow};
-ghost use Rattle.im_select.specs.Emitted.{by_low, by_bits, negated, immediate_line, word_taken, passed_by, put_code, operated_code, stored_from, way_code, behind_at};
+ghost use Rattle.im_select_relation.specs.OperatorTables.{commutes};
+ghost use Rattle.im_select.specs.Emitted.{by_low, by_bits, negated, immediate_line, constant_line, is_spent, is_taken, passed_to, passed_by, constant_code, moved_code, put_code, operated_code, stored_from, way_code, behind_at};
 
 use crate::branching::lives;
+use crate::comparing::{constant_comparison, push_decided};
 use crate::computing::{by_sign, push_computed};
 use crate::lines::push_line;
 use crate::memory::push_write;
@@ -20,12 +22,22 @@ use crate::push::{push, with_immediate};
 use crate::words::{high_part, low_part, push_constant, register, to_word};
 use im_block::{Line as Placed, Place};
 use im_num::{Kind, NoMemory};
+use im_rv::assembler::addi;
 use im_rv::{Instr, Line, Op};
 use im_store::BinaryOp;
 
+/// A constant that a line puts into a register.
+#[derive(Clone, Copy)]
+pub struct Constant {
+    /// Its register.
+    pub register: u32,
+    /// Its word.
+    pub word: u32,
+}
+
 /// An instruction with an immediate of 12 bits, if a word is one with its sign (RISC-V Unprivileged
 /// ISA, 2.4).
-fn by_low(op: Op, to: u32, left: u32, word: u32) -> Option<Instr>
+pub(crate) fn by_low(op: Op, to: u32, left: u32, word: u32) -> Option<Instr>
     requires form { format_of op ≡ Immediate }
     requires to { to < 32 }
     requires left { left < 32 }
@@ -53,7 +65,7 @@ fn by_bits(op: Op, to: u32, left: u32, bits: u32) -> Option<Instr>
 }
 
 /// The word of a number with the contrary sign.
-fn negated(word: u32) -> u32
+pub(crate) fn negated(word: u32) -> u32
     ensures { result ≡ negated word }
 {
     word.wrapping_neg()
@@ -77,6 +89,44 @@ fn immediate(to: u32, op: BinaryOp, kind: Kind, left: u32, word: u32) -> Option<
     }
 }
 
+/// Whether the operands of an operator may change places.
+fn commutes(op: BinaryOp) -> bool
+    ensures { result ≡ commutes op }
+{
+    match op {
+        BinaryOp::Add | BinaryOp::Multiply => true,
+        BinaryOp::BitAnd | BinaryOp::BitOr | BinaryOp::BitXor => true,
+        BinaryOp::Subtract | BinaryOp::Divide | BinaryOp::Remainder => false,
+        BinaryOp::ShiftLeft | BinaryOp::ShiftRight => false,
+    }
+}
+
+/// An operator with a constant in one of its two registers as one instruction, if there is one.
+fn constant_operand(
+    to: u32,
+    op: BinaryOp,
+    kind: Kind,
+    left: u32,
+    right: u32,
+    constant: Constant,
+) -> Option<Instr>
+    requires to { to < 32 }
+    requires left { left < 32 }
+    requires right { right < 32 }
+    ensures { option_map line_of result ≡ constant_line to op kind left right constant }
+{
+    if right == constant.register {
+        if left == constant.register {
+            return None;
+        }
+        return immediate(to, op, kind, left, constant.word);
+    }
+    if left == constant.register && commutes(op) {
+        return immediate(to, op, kind, right, constant.word);
+    }
+    None
+}
+
 /// Whether a place is behind a pointer in a register.
 fn place_uses(place: Place, register: u32) -> bool
     ensures { result ≡ place_uses place register }
@@ -87,14 +137,23 @@ fn place_uses(place: Place, register: u32) -> bool
     }
 }
 
-/// The word that a line takes from the line before it, which puts it into a register: as its
-/// immediate, or a stored 0 by x0, where nothing reads that register behind the line. `behind` has
-/// the registers that live there.
-fn word_taken(behind: u32, constant: u32, word: u32, user: Placed) -> Option<u32>
-    requires constant { constant < 32 }
-    requires machine { IsMachineLine user }
-    ensures { result ≡ word_taken (has behind) constant word user }
+/// Whether a register isn't read behind a line that sets `to`. `behind` has the registers that live
+/// there.
+fn is_spent(behind: u32, to: u32, register: u32) -> bool
+    requires { register < 32 }
+    ensures { result ≡ is_spent (has behind) to register }
 {
+    register == to || !lives(behind, register)
+}
+
+/// Whether a line takes the constant before it, as its immediate, or as x0 a stored 0, where nothing
+/// reads the constant's register behind the line. `behind` has the registers that live there.
+fn is_taken(behind: u32, constant: Constant, user: Placed) -> bool
+    requires constant { constant.register < 32 }
+    requires machine { IsMachineLine user }
+    ensures { result ≡ is_taken (has behind) constant user }
+{
+    let register = constant.register;
     match user {
         Placed::Compute {
             to,
@@ -103,40 +162,69 @@ fn word_taken(behind: u32, constant: u32, word: u32, user: Placed) -> Option<u32
             left,
             right,
         } => {
-            let read = left == constant || constant != to && lives(behind, constant);
-            if right == constant && !read && immediate(to, op, kind, left, word).is_some() {
-                Some(word)
-            } else {
-                None
-            }
+            let one = constant_operand(to, op, kind, left, right, constant);
+            one.is_some() && is_spent(behind, to, register)
+        }
+        Placed::Compare {
+            to,
+            op,
+            kind,
+            left,
+            right,
+        } => {
+            let one = constant_comparison(to, op, kind, left, right, constant);
+            one.is_some() && is_spent(behind, to, register)
         }
         Placed::Write { place, from, .. } => {
-            let read = place_uses(place, constant) || lives(behind, constant);
-            if word == 0 && from == constant && !read {
-                Some(word)
-            } else {
-                None
-            }
+            let read = place_uses(place, register) || lives(behind, register);
+            constant.word == 0 && from == register && !read
         }
-        _ => None,
+        _ => false,
     }
 }
 
-/// What a line passes to the next, if there is one: the word of a constant that it takes. `behind` has the registers that live behind the next.
-fn passed_on(behind: u32, line: Placed, user: Placed) -> Option<u32>
+/// A constant, where the next line takes it.
+fn passed_to(behind: u32, constant: Constant, user: Placed) -> Option<Constant>
+    requires constant { constant.register < 32 }
+    requires machine { IsMachineLine user }
+    ensures { result ≡ passed_to (has behind) constant (user ∷ []) }
+{
+    if is_taken(behind, constant, user) {
+        Some(constant)
+    } else {
+        None
+    }
+}
+
+/// What a line passes to the next, if there is one: a constant that it takes. `behind` has the
+/// registers that live behind the next.
+fn passed_on(behind: u32, line: Placed, user: Placed) -> Option<Constant>
     requires line { IsMachineLine line }
     requires user { IsMachineLine user }
     ensures { result ≡ passed_by (has behind) line (user ∷ []) }
 {
     match line {
-        Placed::Put { to, number } => word_taken(behind, to, to_word(number), user),
+        Placed::Put { to, number } => {
+            let constant = Constant {
+                register: to,
+                word: to_word(number),
+            };
+            passed_to(behind, constant, user)
+        }
+        Placed::PutNull { to } => {
+            let constant = Constant {
+                register: to,
+                word: 0,
+            };
+            passed_to(behind, constant, user)
+        }
         _ => None,
     }
 }
 
 /// What a line passes to the next, by its number. A word of `points` has the registers that live
 /// before a line.
-pub(crate) fn passed_by(points: &[u32], placed: &[Placed], number: usize) -> Option<u32>
+pub(crate) fn passed_by(points: &[u32], placed: &[Placed], number: usize) -> Option<Constant>
     requires there { number < length placed.now }
     requires enough { length placed.now + 1 ≤ length points.now }
     requires machine { All IsMachineLine placed.now }
@@ -150,16 +238,16 @@ pub(crate) fn passed_by(points: &[u32], placed: &[Placed], number: usize) -> Opt
     }
 }
 
-/// A constant, unless it is passed on.
+/// A number, unless it is passed on.
 fn push_put(
     lines: &mut Vec<Line>,
-    passed: Option<u32>,
+    passed: Option<Constant>,
     to: u32,
     number: i128,
 ) -> Result<(), NoMemory>
     requires { to < 32 }
     ensures { OnOk result (code_lines lines.new.items
-        ≡ code_lines lines.old.items ++ put_code passed to (kinds.word number)) }
+        ≡ code_lines lines.old.items ++ put_code passed (constant_code to (kinds.word number))) }
 {
     match passed {
         Some(_) => Ok(()),
@@ -167,11 +255,23 @@ fn push_put(
     }
 }
 
-/// An operator, by one instruction where its right side is a constant that the line before it
+/// A null pointer, unless it is passed on.
+fn push_null(lines: &mut Vec<Line>, passed: Option<Constant>, to: u32) -> Result<(), NoMemory>
+    requires { to < 32 }
+    ensures { OnOk result (code_lines lines.new.items
+        ≡ code_lines lines.old.items ++ put_code passed (moved_code to 0)) }
+{
+    match passed {
+        Some(_) => Ok(()),
+        None => push(lines, addi(register(to), 0, 0)),
+    }
+}
+
+/// An operator, by one instruction where one of its sides is a constant that the line before it
 /// passed.
 fn push_operated(
     lines: &mut Vec<Line>,
-    before: Option<u32>,
+    before: Option<Constant>,
     to: u32,
     op: BinaryOp,
     kind: Kind,
@@ -184,8 +284,8 @@ fn push_operated(
     ensures { OnOk result (code_lines lines.new.items
         ≡ code_lines lines.old.items ++ operated_code before to op kind left right) }
 {
-    if let Some(word) = before {
-        if let Some(instr) = immediate(to, op, kind, left, word) {
+    if let Some(constant) = before {
+        if let Some(instr) = constant_operand(to, op, kind, left, right, constant) {
             return push(lines, instr);
         }
     }
@@ -193,7 +293,7 @@ fn push_operated(
 }
 
 /// The register that is stored, or x0 for a zero that the line before it passed.
-fn stored_from(before: Option<u32>, from: u32) -> u32
+fn stored_from(before: Option<Constant>, from: u32) -> u32
     requires { from < 32 }
     ensures value { result ≡ stored_from before from }
     ensures small { result < 32 }
@@ -204,14 +304,14 @@ fn stored_from(before: Option<u32>, from: u32) -> u32
     }
 }
 
-/// The lines of one line of placed code, which passes a word to the next and takes one of the line
-/// before it. A cut has the entry.
+/// The lines of one line of placed code, which passes a constant to the next and takes one of the
+/// line before it. A cut has the entry.
 pub(crate) fn push_way(
     lines: &mut Vec<Line>,
     names: &Names,
     entry: u32,
-    passed: Option<u32>,
-    before: Option<u32>,
+    passed: Option<Constant>,
+    before: Option<Constant>,
     line: Placed,
 ) -> Result<(), NoMemory>
     requires places { HasPlaces (given names.now) }
@@ -222,6 +322,7 @@ pub(crate) fn push_way(
 {
     match line {
         Placed::Put { to, number } => push_put(lines, passed, to, number),
+        Placed::PutNull { to } => push_null(lines, passed, to),
         Placed::Compute {
             to,
             op,
@@ -229,6 +330,13 @@ pub(crate) fn push_way(
             left,
             right,
         } => { push_operated(lines, before, to, op, kind, left, right) }
+        Placed::Compare {
+            to,
+            op,
+            kind,
+            left,
+            right,
+        } => { push_decided(lines, before, to, op, kind, left, right) }
         Placed::Write {
             place,
             kind,

@@ -3,6 +3,7 @@
 
 mod blocks;
 mod branching;
+mod comparing;
 mod computing;
 mod distance;
 mod folding;

@@ -1,5 +1,5 @@
 -- Comparisons of promoted values and of words, and the machine's lines for them.
-use Rattle.std.proofs.Common.{◌≡◌, ℕ, ◌+◌, ◌^◌, ◌<◌, inl, inr, ℤ, pos, negsuc, Bool, true, false, cond, sym, ap, ◌∙◌, refl, arith}
+use Rattle.std.proofs.Common.{◌≡◌, ◌≢◌, ℕ, zero, suc, ◌+◌, ◌-◌, ◌^◌, ◌<◌, ◌≤◌, inl, inr, ℤ, pos, negsuc, Bool, true, false, cond, sym, ap, ◌∙◌, refl, arith}
 use Rattle.std.specs.Prelude.{nat_le, nat_lt, int_lt, int_le, not, ◌==◌, bit_xor}
 use Rattle.std.specs.Int.{cast_unsigned, w32}
 use Rattle.std.specs.Ordering.{int_eq}
@@ -8,14 +8,14 @@ use Rattle.std.proofs.lemmas.Bool.Decides.{nat_tests, same_from_decides, Decides
 use Rattle.im_num.specs.declared.kind.Kind.{Kind}
 use Rattle.im_num.specs.declared.kind.Kind.TheVariants.{I32, U32}
 use Rattle.im_num.specs.Kinds.{is_signed, wrap, word}
-use Rattle.im_rv.specs.declared.instr.Op.TheVariants.{Slt, Sltu}
+use Rattle.im_rv.specs.declared.instr.Op.TheVariants.{Slt, Sltu, Slti, Sltiu}
 use Rattle.im_rv.specs.declared.effect.Effect.TheVariants.{Puts}
 use Rattle.im_rv.specs.Steps.{signed, sum_of, difference_of, less_signed, as_number, row}
 use Rattle.im_store.specs.declared.operators.Comparison.{Comparison}
 use Rattle.im_store.specs.declared.operators.Comparison.TheVariants.{Less, Greater, LessOrEqual, GreaterOrEqual, Equal, NotEqual}
 use Rattle.im_store.specs.Numbers.{compares}
-use Rattle.im_select_relation.specs.OperatorTables.{IsPromoted, less_op}
-use Rattle.im_select_relation.proofs.Words.{word_small, wrap_unsigned, wrap_signed}
+use Rattle.im_select_relation.specs.OperatorTables.{IsPromoted, less_op, less_by, least}
+use Rattle.im_select_relation.proofs.Words.{word_small, wrap_unsigned, wrap_signed, below_or_not, signed_low, signed_negative}
 use Rattle.im_select_relation.proofs.Arithmetic.{unsigned_less, signed_less}
 
 -- whether a word is less than another, in a kind
@@ -35,6 +35,13 @@ pub less_row : (k : Kind) (pc a b imm : ℕ) → row (less_op k) pc a b imm ≡ 
 less_row k pc a b imm = by (is_signed k)
   where
     by : (t : Bool) → row (cond t Slt Sltu) pc a b imm ≡ Puts (as_number (cond t (less_signed a b) (nat_lt a b))) (sum_of pc 4)
+    by true = refl
+    by false = refl
+
+pub less_by_row : (k : Kind) (pc a b imm : ℕ) → row (less_by k) pc a b imm ≡ Puts (as_number (word_less k a imm)) (sum_of pc 4)
+less_by_row k pc a b imm = by (is_signed k)
+  where
+    by : (t : Bool) → row (cond t Slti Sltiu) pc a b imm ≡ Puts (as_number (cond t (less_signed a imm) (nat_lt a imm))) (sum_of pc 4)
     by true = refl
     by false = refl
 
@@ -111,3 +118,64 @@ compares_shifted NotEqual s i j h k = ap not (pos_equal i j ∙ same s i j) ∙ 
   where
     same : (s i j : ℕ) → (i == j) ≡ (s + i == s + j)
     same s i j = grind (arith, nat_tests)
+
+-- ---- at most a word: less than the next one
+
+abbrev next_z : ℤ → ℤ
+next_z (pos n) = pos (suc n)
+next_z (negsuc zero) = pos zero
+next_z (negsuc (suc n)) = negsuc n
+
+at_most : (a b : ℕ) → not (nat_lt b a) ≡ nat_lt a (suc b)
+at_most a b = grind (arith, nat_tests)
+
+at_least : (a b : ℕ) → not (nat_lt a (suc b)) ≡ nat_lt b a
+at_least a b = grind (arith, nat_tests)
+
+none_below : (a : ℕ) → nat_lt a 0 ≡ false
+none_below a = grind (arith, nat_tests)
+
+at_most_z : (a b : ℤ) → not (int_lt b a) ≡ int_lt a (next_z b)
+at_most_z (pos a) (pos b) = at_most a b
+at_most_z (negsuc a) (pos b) = refl
+at_most_z (pos a) (negsuc zero) = sym (none_below a)
+at_most_z (pos a) (negsuc (suc b)) = refl
+at_most_z (negsuc a) (negsuc zero) = ap not (none_below a)
+at_most_z (negsuc a) (negsuc (suc b)) = at_least a b
+
+below_top : (n above : ℕ) → n < 2 ^ 31 → sum_of n 1 ≡ above → above ≢ 2 ^ 31 → above < 2 ^ 31
+below_top n above low e ne = elim (below_or_not above (2 ^ 31)) [ inl x ↦ x | inr y ↦ absurd (ne (omega arith)) ]
+
+next_is : (n above : ℕ) → n < 2 ^ 32 → sum_of n 1 ≡ above → above ≢ 0 → suc n ≡ above
+next_is n above small e ne = elim (below_or_not (suc n) (2 ^ 32)) [ inl x ↦ omega arith | inr y ↦ absurd (ne (omega arith)) ]
+
+signed_above : (n above : ℕ) → n < 2 ^ 32 → sum_of n 1 ≡ above → above ≢ 2 ^ 31 → signed above ≡ next_z (signed n)
+signed_above n above small e ne = elim (below_or_not n (2 ^ 31)) [
+  | inl low ↦ signed_low above (below_top n above low e ne) ∙ ap pos (let q : above ≡ suc n = omega arith in q) ∙ ap next_z (sym (signed_low n low))
+  | inr high ↦ elim (below_or_not (suc n) (2 ^ 32)) [
+    | inl more ↦ (
+        let up : 4294967296 - suc above ≡ 4294967296 - suc (suc n) = omega arith in
+        let down : 4294967296 - suc n ≡ suc (4294967296 - suc (suc n)) = omega arith in
+        signed_negative above (omega arith) (omega arith) ∙ ap negsuc up ∙ ap next_z (sym (signed_negative n high small ∙ ap negsuc down))
+        )
+    | inr last ↦ (
+        let up : above ≡ 0 = omega arith in
+        let down : 4294967296 - suc n ≡ 0 = omega arith in
+        ap signed up ∙ signed_low 0 (omega arith) ∙ ap next_z (sym (signed_negative n high small ∙ ap negsuc down))
+        )
+  ]
+]
+
+pub less_above : (k : Kind) (x n above : ℕ) → n < 2 ^ 32 → sum_of n 1 ≡ above → above ≢ least k → not (word_less k n x) ≡ word_less k x above
+less_above k x n above small e = by (is_signed k)
+  where
+    by : (t : Bool) → above ≢ cond t (2 ^ 31) 0 → not (cond t (less_signed n x) (nat_lt n x)) ≡ cond t (less_signed x above) (nat_lt x above)
+    by true ne = at_most_z (signed x) (signed n) ∙ ap (int_lt (signed x)) (sym (signed_above n above small e ne))
+    by false ne = at_most x n ∙ ap (nat_lt x) (next_is n above small e ne)
+
+not_not : (b : Bool) → not (not b) ≡ b
+not_not true = refl
+not_not false = refl
+
+pub more_above : (k : Kind) (x n above : ℕ) → n < 2 ^ 32 → sum_of n 1 ≡ above → above ≢ least k → not (word_less k x above) ≡ word_less k n x
+more_above k x n above small e ne = ap not (sym (less_above k x n above small e ne)) ∙ not_not (word_less k n x)

@@ -15,13 +15,13 @@ use Rattle.im_rv_reach.specs.Plain.{returns_by}
 use Rattle.im_rv_reach.specs.Instructions.{Holds, Fixed, with_immediate, on_registers}
 use Rattle.im_rv_reach.proofs.Reach.{plus_is, nothing, join, puts}
 use Rattle.im_rv_reach.specs.Reach.{plus, Reach}
-use Rattle.im_select_relation.specs.OperatorTables.{by_sign, less_op}
+use Rattle.im_select_relation.specs.OperatorTables.{by_sign, less_op, less_by}
 use Rattle.im_select_relation.proofs.Words.{word_wrap, loaded_wrap}
 use Rattle.im_select_relation.proofs.Division.{narrowed_u8, narrowed_u16, narrowed_i8, narrowed_i16}
-use Rattle.im_select_relation.proofs.Comparisons.{word_less, outcome, less_row, turned}
+use Rattle.im_select_relation.proofs.Comparisons.{word_less, outcome, less_row, less_by_row, turned, less_above, more_above}
 use Rattle.im_store.specs.declared.operators.Comparison.{Comparison}
 use Rattle.im_select_relation.specs.Linking.{Linking}
-use Rattle.im_select_relation.specs.Selected.{Constant, Copied, Already, Moved, Converted, Whole, Masked, Narrowed, Scaled, Bytes, Shifted, Multiplied, unused_bits, Compared, Lesser, Larger, NotLarger, NotLesser, Same, Other}
+use Rattle.im_select_relation.specs.Selected.{Constant, Copied, Already, Moved, Converted, Whole, Masked, Narrowed, Scaled, Bytes, Shifted, Multiplied, unused_bits, Compared, Lesser, Larger, NotLarger, NotLesser, Same, Other, ComparedBy, LesserBy, NotLesserBy, NotLargerBy, LargerBy, SameZero, SameBy, OtherZero, OtherBy}
 use Rattle.im_select_relation.proofs.Ends.{Loaded, constant}
 use Rattle.im_select_relation.proofs.Gives.{Gave, gave_one, gave_more}
 
@@ -48,6 +48,15 @@ less_on U16 = refl
 less_on I32 = refl
 less_on U32 = refl
 less_on Ptr = refl
+
+less_by_on : (k : Kind) → returns_by (less_by k) ≡ false
+less_by_on I8 = refl
+less_by_on U8 = refl
+less_by_on I16 = refl
+less_by_on U16 = refl
+less_by_on I32 = refl
+less_by_on U32 = refl
+less_by_on Ptr = refl
 
 shift_on : (k : Kind) → returns_by (by_sign k Srai Srli) ≡ false
 shift_on I8 = refl
@@ -84,6 +93,46 @@ gave_compared p m pc x to k left right op next some l5 r5 x0 fixed (Other h g) =
     let d : ℕ = difference_of (x left) (x right) in
     gave_more p.image m pc (pc + 4) x (with_reg x 5 d) 1 1 (on_registers Sltu to 0 5) (as_number (nat_lt 0 d)) (omega arith) some fixed
     (puts p.image m pc x (on_registers Sub 5 left right) d fixed h refl refl) (λ i ne a b. other_reg x 5 d i a) g
+    (ap (λ z. Puts (as_number (nat_lt z (with_reg x 5 d 5))) (sum_of (pc + 4) 4)) (other_reg x 5 d 0 (omega arith) ∙ x0) ∙ ap (λ z. Puts (as_number (nat_lt 0 z)) (sum_of (pc + 4) 4)) (same_reg x 5 d (omega arith))) refl
+
+-- whether a register is less than an immediate, turned round
+turned_by : (p : Linking) (m : Mem) (pc : ℕ) (x : ℕ → ℕ) (to : ℕ) (k : Kind) (left imm : ℕ) (b : Bool) → 0 < to → Fixed p.image m → Holds p.image pc (with_immediate (less_by k) to left imm) → Holds p.image (pc + 4) (with_immediate Xori to to 1) → not (word_less k (x left) imm) ≡ b → Gave m pc x to (as_number b) (pc + 4 + 4) 2
+turned_by p m pc x to k left imm b some fixed h g e =
+    let v : ℕ = as_number (word_less k (x left) imm) in
+    gave_more p.image m pc (pc + 4) x (with_reg x to v) 1 1 (with_immediate Xori to to 1) (as_number b) (omega arith) some fixed
+    (puts p.image m pc x (with_immediate (less_by k) to left imm) v fixed h (less_by_row k pc (x left) (x 0) imm) (less_by_on k)) (λ i ne a c. other_reg x to v i ne) g
+    (ap (λ z. Puts (bit_xor z 1) (sum_of (pc + 4) 4)) (same_reg x to v some) ∙ ap (λ z. Puts z (sum_of (pc + 4) 4)) (turned (word_less k (x left) imm) ∙ ap as_number e)) refl
+
+sum_negative : (x n imm : ℕ) → n < 2 ^ 32 → sum_of imm n ≡ 0 → sum_of x imm ≡ difference_of x n
+sum_negative x n imm small e = omega arith
+
+from_none : (x n : ℕ) → x < 2 ^ 32 → n ≡ 0 → x ≡ difference_of x n
+from_none x n small e = omega arith
+
+pub gave_compared_by : (p : Linking) (m : Mem) (pc : ℕ) (x : ℕ → ℕ) (to : ℕ) (k : Kind) (left n : ℕ) (op : Comparison) (next : ℕ) → 0 < to → left ≢ 5 → x 0 ≡ 0 → x left < 2 ^ 32 → n < 2 ^ 32 → Fixed p.image m → ComparedBy p pc to k left n op next → Gave m pc x to (as_number (outcome (word_less k) op (x left) n)) next 2
+gave_compared_by p m pc x to k left n op next some l5 x0 sx sn fixed (LesserBy h) = gave_weak m pc x to _ (pc + 4) 1 2 (omega arith) (gave_one p.image m pc x (with_immediate (less_by k) to left n) (as_number (word_less k (x left) n)) some fixed h (less_by_row k pc (x left) (x 0) n) (less_by_on k))
+gave_compared_by p m pc x to k left n op next some l5 x0 sx sn fixed (NotLesserBy h g) = turned_by p m pc x to k left n (not (word_less k (x left) n)) some fixed h g refl
+gave_compared_by p m pc x to k left n op next some l5 x0 sx sn fixed (NotLargerBy above e ne h) =
+    gave_weak m pc x to _ (pc + 4) 1 2 (omega arith) (gave_one p.image m pc x (with_immediate (less_by k) to left above) (as_number (not (word_less k n (x left)))) some fixed h
+    (less_by_row k pc (x left) (x 0) above ∙ ap (λ b. Puts (as_number b) (sum_of pc 4)) (sym (less_above k (x left) n above sn e ne))) (less_by_on k))
+gave_compared_by p m pc x to k left n op next some l5 x0 sx sn fixed (LargerBy above e ne h g) = turned_by p m pc x to k left above (word_less k n (x left)) some fixed h g (more_above k (x left) n above sn e ne)
+gave_compared_by p m pc x to k left n op next some l5 x0 sx sn fixed (SameZero e h) =
+    let d : ℕ = difference_of (x left) n in
+    gave_weak m pc x to _ (pc + 4) 1 2 (omega arith) (gave_one p.image m pc x (with_immediate Sltiu to left 1) (as_number (nat_lt d 1)) some fixed h
+    (ap (λ z. Puts (as_number (nat_lt z 1)) (sum_of pc 4)) (from_none (x left) n sx e)) refl)
+gave_compared_by p m pc x to k left n op next some l5 x0 sx sn fixed (SameBy imm e h g) =
+    let d : ℕ = difference_of (x left) n in
+    gave_more p.image m pc (pc + 4) x (with_reg x 5 d) 1 1 (with_immediate Sltiu to 5 1) (as_number (nat_lt d 1)) (omega arith) some fixed
+    (puts p.image m pc x (with_immediate Addi 5 left imm) d fixed h (ap (λ z. Puts z (sum_of pc 4)) (sum_negative (x left) n imm sn e)) refl) (λ i ne a b. other_reg x 5 d i a) g
+    (ap (λ z. Puts (as_number (nat_lt z 1)) (sum_of (pc + 4) 4)) (same_reg x 5 d (omega arith))) refl
+gave_compared_by p m pc x to k left n op next some l5 x0 sx sn fixed (OtherZero e h) =
+    let d : ℕ = difference_of (x left) n in
+    gave_weak m pc x to _ (pc + 4) 1 2 (omega arith) (gave_one p.image m pc x (on_registers Sltu to 0 left) (as_number (nat_lt 0 d)) some fixed h
+    (ap (λ z. Puts (as_number (nat_lt z (x left))) (sum_of pc 4)) x0 ∙ ap (λ z. Puts (as_number (nat_lt 0 z)) (sum_of pc 4)) (from_none (x left) n sx e)) refl)
+gave_compared_by p m pc x to k left n op next some l5 x0 sx sn fixed (OtherBy imm e h g) =
+    let d : ℕ = difference_of (x left) n in
+    gave_more p.image m pc (pc + 4) x (with_reg x 5 d) 1 1 (on_registers Sltu to 0 5) (as_number (nat_lt 0 d)) (omega arith) some fixed
+    (puts p.image m pc x (with_immediate Addi 5 left imm) d fixed h (ap (λ z. Puts z (sum_of pc 4)) (sum_negative (x left) n imm sn e)) refl) (λ i ne a b. other_reg x 5 d i a) g
     (ap (λ z. Puts (as_number (nat_lt z (with_reg x 5 d 5))) (sum_of (pc + 4) 4)) (other_reg x 5 d 0 (omega arith) ∙ x0) ∙ ap (λ z. Puts (as_number (nat_lt 0 z)) (sum_of (pc + 4) 4)) (same_reg x 5 d (omega arith))) refl
 
 -- a value brought into a kind, by its word

@@ -15,9 +15,9 @@ use Rattle.im_block.specs.declared.code.Exit.{Exit}
 use Rattle.im_block.specs.declared.code.Exit.TheVariants.{Jump, Turn, Branch, Return}
 use Rattle.im_block.specs.declared.code.Block.{Block}
 use Rattle.im_select_relation.specs.Linking.{Linking, frame_of}
-use Rattle.im_select_relation.specs.Selected.{Constant, Displaced, Based, Adds, Compared, Copied, Converted, Scaled, Selected, Jumps, Continues, Test, nonzero, comparing, or_zero, Tested, Leaves, ExitAt, Joined, Folded, Stands, Checked, Prologue}
+use Rattle.im_select_relation.specs.Selected.{Constant, Displaced, Based, Adds, Compared, Copied, Converted, Scaled, Selected, Jumps, Continues, Test, nonzero, comparing, or_zero, Tested, Leaves, ExitAt, Joined, ComparedBy, Folded, Stands, Checked, Prologue}
 use Rattle.im_select_relation.specs.Selected as linked
-use Rattle.im_select_relation.specs.Symbolic.{Lines, HasLine, ConstantIn, Small, Large, DisplacedIn, Near, Far, BasedIn, InFrame, InStatic, Behind, AddsIn, Short, Long, ComparedIn, Lesser, Larger, NotLarger, NotLesser, Same, Other, CopiedIn, Already, Moved, ConvertedIn, Whole, Masked, Narrowed, ScaledIn, Bytes, Shifted, Multiplied, SelectedIn, Numbers, Nulls, Copies, Converts, Negates, Complements, Nots, Computes, Compares, Moves, Measures, Addresses, AddressesPage, Fetches, StoresValue, Reloads, Spills, Cuts_, Calls, Serves_, JumpsIn, ContinuesIn, Falls, Leaps, TestedIn, Reached, Missed, Hopped, Skipped, LeavesIn, ExitIn, JoinedIn, Decides, DecidesByZero, FoldedIn, ComputesBy, StoresZero, StandsIn, CheckedIn, Direct, Around, PrologueIn, spot_of, distance, IsLaid, LinesLaw, FrameLaw}
+use Rattle.im_select_relation.specs.Symbolic.{Lines, HasLine, ConstantIn, Small, Large, DisplacedIn, Near, Far, BasedIn, InFrame, InStatic, Behind, AddsIn, Short, Long, ComparedIn, Lesser, Larger, NotLarger, NotLesser, Same, Other, CopiedIn, Already, Moved, ConvertedIn, Whole, Masked, Narrowed, ScaledIn, Bytes, Shifted, Multiplied, SelectedIn, Numbers, Nulls, Copies, Converts, Negates, Complements, Nots, Computes, Compares, Moves, Measures, Addresses, AddressesPage, Fetches, StoresValue, Reloads, Spills, Cuts_, Calls, Serves_, JumpsIn, ContinuesIn, Falls, Leaps, TestedIn, Reached, Missed, Hopped, Skipped, LeavesIn, ExitIn, JoinedIn, Decides, DecidesByZero, ComparedByIn, LesserBy, NotLesserBy, NotLargerBy, LargerBy, SameZero, SameBy, OtherZero, OtherBy, FoldedIn, ComputesBy, ComputesFrom, ComparesBy, StoresZero, StandsIn, CheckedIn, Direct, Around, PrologueIn, spot_of, distance, IsLaid, LinesLaw, FrameLaw}
 
 lands : (pc target : ℕ) → pc + 4 ≤ 1048576 → target < 2 ^ 32 → sum_of pc (distance pc target) ≡ target
 lands pc target a b = omega arith
@@ -148,16 +148,28 @@ joined : (p : Linking) (i : ℕ) (w : Lines) (place starts : ℕ → ℕ) → Is
 joined p i w place starts l blocks k line rest exit (Decides to op kind left right a b x y h c d t) = linked.Decides to op kind left right a b x y h c d (tested p i w place starts l k (comparing kind left right op) a b t)
 joined p i w place starts l blocks k line rest exit (DecidesByZero zero r to op kind left right a b is x y h c d e f t) = linked.DecidesByZero zero r to op kind left right a b is x y h c d e f (tested p i w place starts l k (comparing kind (or_zero r left) (or_zero r right) op) a b t)
 
-folded : (p : Linking) (i : ℕ) (w : Lines) (place starts : ℕ → ℕ) → IsLaid p i w place starts → (blocks : List Block) (k : ℕ) (line user : Line) (rest : List Line) (exit : Exit) (next : ℕ) → FoldedIn w blocks k line user rest exit next → Folded p blocks (spot_of (p.entry i) k) line user rest exit (spot_of (p.entry i) next)
-folded p i w place starts l blocks k line user rest exit next (ComputesBy r z to op kind left rest' exit' by imm home x ne h is spent a) = linked.ComputesBy r z to op kind left rest' exit' by imm home x ne h is spent (plain p i w place starts l k _ None None a)
-folded p i w place starts l blocks k line user rest exit next (StoresZero r z at kind access rest' exit' base imm mid zero apart unread b a) = linked.StoresZero r z at kind access rest' exit' base imm (spot_of (p.entry i) mid) zero apart unread (based p i w place starts l k at base imm mid b) (plain p i w place starts l mid _ (Some access) None a)
+compared_by : (p : Linking) (i : ℕ) (w : Lines) (place starts : ℕ → ℕ) → IsLaid p i w place starts → (k to : ℕ) (kind : Kind) (left n : ℕ) (op : Comparison) (next : ℕ) → ComparedByIn w k to kind left n op next → ComparedBy p (spot_of (p.entry i) k) to kind left n op (spot_of (p.entry i) next)
+compared_by p i w place starts l k to kind left n op next (LesserBy a) = linked.LesserBy (plain p i w place starts l k _ None None a)
+compared_by p i w place starts l k to kind left n op next (NotLesserBy a b) = linked.NotLesserBy (plain p i w place starts l k _ None None a) (plain p i w place starts l (suc k) _ None None b)
+compared_by p i w place starts l k to kind left n op next (NotLargerBy above e ne a) = linked.NotLargerBy above e ne (plain p i w place starts l k _ None None a)
+compared_by p i w place starts l k to kind left n op next (LargerBy above e ne a b) = linked.LargerBy above e ne (plain p i w place starts l k _ None None a) (plain p i w place starts l (suc k) _ None None b)
+compared_by p i w place starts l k to kind left n op next (SameZero e a) = linked.SameZero e (plain p i w place starts l k _ None None a)
+compared_by p i w place starts l k to kind left n op next (SameBy imm e a b) = linked.SameBy imm e (plain p i w place starts l k _ None None a) (plain p i w place starts l (suc k) _ None None b)
+compared_by p i w place starts l k to kind left n op next (OtherZero e a) = linked.OtherZero e (plain p i w place starts l k _ None None a)
+compared_by p i w place starts l k to kind left n op next (OtherBy imm e a b) = linked.OtherBy imm e (plain p i w place starts l k _ None None a) (plain p i w place starts l (suc k) _ None None b)
+
+folded : (p : Linking) (i : ℕ) (w : Lines) (place starts : ℕ → ℕ) → IsLaid p i w place starts → (blocks : List Block) (k r n : ℕ) (user : Line) (rest : List Line) (exit : Exit) (next : ℕ) → FoldedIn w blocks k r n user rest exit next → Folded p blocks (spot_of (p.entry i) k) r n user rest exit (spot_of (p.entry i) next)
+folded p i w place starts l blocks k r n user rest exit next (ComputesBy to op kind left rest' exit' by imm home x ne h is spent a) = linked.ComputesBy to op kind left rest' exit' by imm home x ne h is spent (plain p i w place starts l k _ None None a)
+folded p i w place starts l blocks k r n user rest exit next (ComputesFrom to op kind right rest' exit' by imm home x ne h turns is spent a) = linked.ComputesFrom to op kind right rest' exit' by imm home x ne h turns is spent (plain p i w place starts l k _ None None a)
+folded p i w place starts l blocks k r n user rest exit next (ComparesBy to op kind left rest' exit' next' home x ne h spent a) = linked.ComparesBy to op kind left rest' exit' (spot_of (p.entry i) next') home x ne h spent (compared_by p i w place starts l k to kind left n op next' a)
+folded p i w place starts l blocks k r n user rest exit next (StoresZero at kind access rest' exit' base imm mid zero apart unread b a) = linked.StoresZero at kind access rest' exit' base imm (spot_of (p.entry i) mid) zero apart unread (based p i w place starts l k at base imm mid b) (plain p i w place starts l mid _ (Some access) None a)
 
 stands : (p : Linking) (i : ℕ) (w : Lines) (place starts : ℕ → ℕ) → IsLaid p i w place starts → (blocks : List Block) (frame k : ℕ) (lines : List Line) (exit : Exit) → StandsIn w blocks starts frame k lines exit → Stands p blocks i frame (spot_of (p.entry i) k) lines exit
 stands p i w place starts l blocks frame k [] exit h = exits p i w place starts l frame k exit h
 stands p i w place starts l blocks frame k (line ∷ rest) exit (inl h) = inl (spot_of (p.entry i) h.0, selected p i w place starts l k line h.0 h.1, stands p i w place starts l blocks frame h.0 rest exit h.2)
 stands p i w place starts l blocks frame k (line ∷ rest) exit (inr (inl h)) = inr (inl (joined p i w place starts l blocks k line rest exit h))
 stands p i w place starts l blocks frame k (line ∷ []) exit (inr (inr h)) = absurd h
-stands p i w place starts l blocks frame k (line ∷ user ∷ rest) exit (inr (inr h)) = inr (inr (spot_of (p.entry i) h.0, folded p i w place starts l blocks k line user rest exit h.0 h.1, stands p i w place starts l blocks frame h.0 rest exit h.2))
+stands p i w place starts l blocks frame k (line ∷ user ∷ rest) exit (inr (inr h)) = inr (inr (h.0, h.1, spot_of (p.entry i) h.2, h.3, folded p i w place starts l blocks k h.0 h.1 user rest exit h.2 h.4, stands p i w place starts l blocks frame h.2 rest exit h.5))
 
 checked : (p : Linking) (i : ℕ) (w : Lines) (place starts : ℕ → ℕ) → IsLaid p i w place starts → (k next : ℕ) → CheckedIn w k next → Checked p (spot_of (p.entry i) k) (spot_of (p.entry i) next)
 checked p i w place starts l k next (Direct a) =

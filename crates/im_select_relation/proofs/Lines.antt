@@ -19,7 +19,7 @@ use Rattle.im_rv_reach.specs.Reach.{plus}
 use Rattle.im_rv_reach.specs.Instructions.{Holds, with_immediate, on_registers, storing, upper, jumping}
 use Rattle.im_rv_reach.specs.Routines.{Done, Called}
 use Rattle.im_rv_reach.proofs.Reach.{join, next_pc, no_back, leaps}
-use Rattle.im_select_relation.specs.OperatorTables.{IsPromoted, by_sign, store_op, operation}
+use Rattle.im_select_relation.specs.OperatorTables.{IsPromoted, by_sign, commutes, store_op, operation}
 use Rattle.im_select_relation.proofs.Words.{word_small}
 use Rattle.im_select_relation.proofs.Arithmetic.{negated_word}
 use Rattle.im_select_relation.proofs.Division.{complemented_word}
@@ -42,7 +42,7 @@ use Rattle.im_block.specs.declared.code.Line.TheVariants.{Cut, Serve}
 use Rattle.im_block.specs.declared.unit.Unit.{Unit as Code}
 use Rattle.im_block.specs.Meaning.{Setting, State, Next, Goes, Stops, Serves, Cuts, Active, object_of, with_register, with_rest, kept_by, does, place_of, computed, computed_one, moved, distance_of, negation, condition, compared, converted, pointer_of, slot_of, slot_shape, read_place, write_place, read_slot, write_slot, site_of, slot_site, number_of, argument, Location, as_number, as_truth, computes, writes}
 use Rattle.im_select_relation.specs.Linking.{Linking, pointer_at, frame_of, runtime, Means}
-use Rattle.im_select_relation.specs.Selected.{IsHome, IsEntry, ones, Immediate, AddsBy, SubtractsBy, AndsBy, OrsBy, XorsBy, ShiftsLeftBy, ShiftsRightBy, Already, Moved, Selected, Numbers, Nulls, Copies, Converts, Negates, Complements, Nots, Computes, Compares, Moves, Measures, Addresses, AddressesPage, Fetches, StoresValue, Reloads, Spills, Cuts_, Calls, Serves_, argument_register, Stands, Displaced, Based}
+use Rattle.im_select_relation.specs.Selected.{IsHome, IsEntry, ones, Immediate, AddsBy, SubtractsBy, AndsBy, OrsBy, XorsBy, ShiftsLeftBy, ShiftsRightBy, Already, Moved, Selected, Numbers, Nulls, Copies, Converts, Negates, Complements, Nots, Computes, Compares, Moves, Measures, Addresses, AddressesPage, Fetches, StoresValue, Reloads, Spills, Cuts_, Calls, Serves_, argument_register, ComparedBy, Stands, Displaced, Based}
 use Rattle.im_block.specs.Shape.{narrowing, line_weight}
 use Rattle.im_select_relation.specs.Law.{Touches, Nothing, Serving, Cutting, steps}
 use Rattle.im_select_relation.proofs.Registers.{RegsMean, means_at, only_result}
@@ -53,9 +53,9 @@ use Rattle.im_select_relation.proofs.Shapes.{Premises}
 use Rattle.im_select_relation.proofs.Relation.{Rel, Advanced, After, checked_after, takes_after, chain_kept, links_same}
 use Rattle.im_select_relation.proofs.Calls.{number_word, lost_by, word_even, call_after}
 use Rattle.im_select_relation.proofs.Places.{Ready, means_mod, displaced, static_means, based}
-use Rattle.im_select_relation.proofs.Operators.{Converts as Converted_, numbers_mean, truths_mean, converted_word, computed_row, immediate_row, condition_word, zero_test}
+use Rattle.im_select_relation.proofs.Operators.{Converts as Converted_, numbers_mean, truths_mean, converted_word, computed_row, immediate_row, turned_row, truth_word, condition_word, zero_test}
 use Rattle.im_select_relation.proofs.Pointers.{in_use, use_small, places_word, moved_means, moved_word, distance_means}
-use Rattle.im_select_relation.proofs.Computing.{gave_weak, gave_none, some_steps, gave_constant, gave_compared, gave_converted, gave_moved, gave_distance}
+use Rattle.im_select_relation.proofs.Computing.{gave_weak, gave_none, some_steps, gave_constant, gave_compared, gave_compared_by, gave_converted, gave_moved, gave_distance}
 use Rattle.im_select_relation.proofs.Gives.{Lands, gave_one, gave_more, computes_after, reads_after, writes_after}
 
 pub after_more : (p : Linking) (u : Code) (g : Setting) (fuel words more : ℕ) (c : Cpu) (m : Mem) (next : Next) → words ≤ more → After p u g fuel words c m next → After p u g fuel more c m next
@@ -253,32 +253,54 @@ operation_on BitXor kind = refl
 operation_on ShiftLeft kind = refl
 operation_on ShiftRight kind = signed_on kind Sra Srl refl refl
 
-immediate_on : (z : ℤ) (kind : Kind) (op : BinaryOp) (by : Op) (imm : ℕ) → Immediate z kind op by imm → returns_by by ≡ false
-immediate_on z kind op by imm AddsBy = refl
-immediate_on z kind op by imm (SubtractsBy n e) = refl
-immediate_on z kind op by imm AndsBy = refl
-immediate_on z kind op by imm OrsBy = refl
-immediate_on z kind op by imm XorsBy = refl
-immediate_on z kind op by imm ShiftsLeftBy = refl
-immediate_on z kind op by imm ShiftsRightBy = signed_on kind Srai Srli refl refl
+immediate_on : (n : ℕ) (kind : Kind) (op : BinaryOp) (by : Op) (imm : ℕ) → Immediate n kind op by imm → returns_by by ≡ false
+immediate_on n kind op by imm AddsBy = refl
+immediate_on n kind op by imm (SubtractsBy i e) = refl
+immediate_on n kind op by imm AndsBy = refl
+immediate_on n kind op by imm OrsBy = refl
+immediate_on n kind op by imm XorsBy = refl
+immediate_on n kind op by imm ShiftsLeftBy = refl
+immediate_on n kind op by imm ShiftsRightBy = signed_on kind Srai Srli refl refl
 
 -- an operator and the constant on its right, as one
-pub folded_after : (p : Linking) (u : Code) (g : Setting) (s : State) (c : Cpu) (m : Mem) (r : Rel p u g s c m) (z : ℤ) (to : ℕ) (op : BinaryOp) (kind : Kind) (left : ℕ) (rest : List Line) (by : Op) (imm : ℕ) → IsHome to → IsHome left → IsPromoted kind → Immediate z kind op by imm → Holds p.image c.pc (with_immediate by to left imm) → Stands p r.f.blocks.items s.frame.function (frame_of g s.frame.function) (c.pc + 4) rest s.frame.spot.exit → After p u g s.fuel (1 + narrowing kind) c m (computes to (as_number (computed op kind (s.frame.registers left) (Number z))) rest s)
-folded_after p u g s c m r z to op kind left rest by imm home a k is h code =
-    checked_after p u g s.fuel (1 + narrowing kind) c m (as_number (computed op kind (s.frame.registers left) (Number z))) _ (λ v e.
-    let t = then_fine (computed op kind (s.frame.registers left) (Number z)) _ v e in
+pub folded_after : (p : Linking) (u : Code) (g : Setting) (s : State) (c : Cpu) (m : Mem) (r : Rel p u g s c m) (constant : Value) (n to : ℕ) (op : BinaryOp) (kind : Kind) (left : ℕ) (rest : List Line) (by : Op) (imm : ℕ) → n < 2 ^ 32 → Means p constant n → IsHome to → IsHome left → IsPromoted kind → Immediate n kind op by imm → Holds p.image c.pc (with_immediate by to left imm) → Stands p r.f.blocks.items s.frame.function (frame_of g s.frame.function) (c.pc + 4) rest s.frame.spot.exit → After p u g s.fuel (1 + narrowing kind) c m (computes to (as_number (computed op kind (s.frame.registers left) constant)) rest s)
+folded_after p u g s c m r constant n to op kind left rest by imm small means home a k is h code =
+    checked_after p u g s.fuel (1 + narrowing kind) c m (as_number (computed op kind (s.frame.registers left) constant)) _ (λ v e.
+    let t = then_fine (computed op kind (s.frame.registers left) constant) _ v e in
     computes_after p u g s c m r (1 + narrowing kind) to (word t.a) (c.pc + 4) (Fine v) rest home.0
     (gave_weak m c.pc c.x to (word t.a) (c.pc + 4) 1 (1 + narrowing kind) (omega arith) (gave_one p.image m c.pc c.x (with_immediate by to left imm) (word t.a) (let q = home.0 in omega arith) r.fixed h
-    (immediate_row z kind op by imm c.pc (c.x left) (c.x 0) is ∙ computed_row p op kind (s.frame.registers left) (Number z) (c.x left) (word z) t.a c.pc 0 k t.first (r.regs.homes left a.0) refl) (immediate_on z kind op by imm is))) code
+    (immediate_row n kind op by imm c.pc (c.x left) (c.x 0) small is ∙ computed_row p op kind (s.frame.registers left) constant (c.x left) n t.a c.pc 0 k t.first (r.regs.homes left a.0) means) (immediate_on n kind op by imm is))) code
     (λ v' e'. subst (λ q. Means p q (word t.a)) (fine_is (Number t.a) v t.second ∙ fine_is v v' e') refl))
 
--- a store of zero
-pub stored_after : (p : Linking) (u : Code) (g : Setting) → Premises p u g → (s : State) (c : Cpu) (m : Mem) (r : Rel p u g s c m) (z : ℤ) (place : Place) (kind : Kind) (access : ℕ) (rest : List Line) (base imm mid : ℕ) → word z ≡ 0 → Based p c.pc place base imm mid → Holds p.image mid (storing (store_op kind) base 0 imm) → Stands p r.f.blocks.items s.frame.function (frame_of g s.frame.function) (mid + 4) rest s.frame.spot.exit → After p u g s.fuel 3 c m (writes (site_of access kind) (write_place place kind (Number z) s.frame.active s.frame.registers s.store) rest s)
-stored_after p u g l s c m r z place kind access rest base imm mid nought based_ h code =
+-- so with the constant on its left
+pub turned_after : (p : Linking) (u : Code) (g : Setting) (s : State) (c : Cpu) (m : Mem) (r : Rel p u g s c m) (constant : Value) (n to : ℕ) (op : BinaryOp) (kind : Kind) (right : ℕ) (rest : List Line) (by : Op) (imm : ℕ) → n < 2 ^ 32 → Means p constant n → IsHome to → IsHome right → IsPromoted kind → commutes op ≡ true → Immediate n kind op by imm → Holds p.image c.pc (with_immediate by to right imm) → Stands p r.f.blocks.items s.frame.function (frame_of g s.frame.function) (c.pc + 4) rest s.frame.spot.exit → After p u g s.fuel (1 + narrowing kind) c m (computes to (as_number (computed op kind constant (s.frame.registers right))) rest s)
+turned_after p u g s c m r constant n to op kind right rest by imm small means home a k turns is h code =
+    checked_after p u g s.fuel (1 + narrowing kind) c m (as_number (computed op kind constant (s.frame.registers right))) _ (λ v e.
+    let t = then_fine (computed op kind constant (s.frame.registers right)) _ v e in
+    computes_after p u g s c m r (1 + narrowing kind) to (word t.a) (c.pc + 4) (Fine v) rest home.0
+    (gave_weak m c.pc c.x to (word t.a) (c.pc + 4) 1 (1 + narrowing kind) (omega arith) (gave_one p.image m c.pc c.x (with_immediate by to right imm) (word t.a) (let q = home.0 in omega arith) r.fixed h
+    (immediate_row n kind op by imm c.pc (c.x right) (c.x 0) small is ∙ turned_row op kind c.pc (c.x right) n 0 turns ∙ computed_row p op kind constant (s.frame.registers right) n (c.x right) t.a c.pc 0 k t.first means (r.regs.homes right a.0)) (immediate_on n kind op by imm is))) code
+    (λ v' e'. subst (λ q. Means p q (word t.a)) (fine_is (Number t.a) v t.second ∙ fine_is v v' e') refl))
+
+-- a comparison and the constant on its right, as one
+pub compared_after : (p : Linking) (u : Code) (g : Setting) (s : State) (c : Cpu) (m : Mem) (r : Rel p u g s c m) (constant : Value) (n to : ℕ) (op : Comparison) (kind : Kind) (left : ℕ) (rest : List Line) (next : ℕ) → n < 2 ^ 32 → Means p constant n → IsHome to → IsHome left → IsPromoted kind ⊎ (kind ≡ Ptr) → ComparedBy p c.pc to kind left n op next → Stands p r.f.blocks.items s.frame.function (frame_of g s.frame.function) next rest s.frame.spot.exit → After p u g s.fuel 2 c m (computes to (as_truth (compared s.store op kind (s.frame.registers left) constant)) rest s)
+compared_after p u g s c m r constant n to op kind left rest next small means home a k h code =
+    checked_after p u g s.fuel 2 c m (as_truth (compared s.store op kind (s.frame.registers left) constant)) _ (λ v e.
+    let t = then_fine (compared s.store op kind (s.frame.registers left) constant) _ v e in
+    let w = compared_word p s.store _ op kind (s.frame.registers left) constant (c.x left) n t.a k r.mapped t.first (r.regs.homes left a.0) means in
+    let found : ℕ = number_as (outcome (word_less kind) op (c.x left) n) in
+    computes_after p u g s c m r 2 to found next (Fine v) rest home.0
+    (gave_compared_by p m c.pc c.x to kind left n op next (let q = home.0 in omega arith) (let q = a.0 in omega arith) r.regs.zero_reg w.left small r.fixed h) code
+    (λ v' e'. subst (λ q. Means p q found) (fine_is (Number (cond t.a (pos 1) (pos 0))) v t.second ∙ fine_is v v' e') (ap number_as (sym w.is) ∙ truth_word t.a)))
+
+-- a store of a value whose word is 0
+pub stored_after : (p : Linking) (u : Code) (g : Setting) → Premises p u g → (s : State) (c : Cpu) (m : Mem) (r : Rel p u g s c m) (constant : Value) (n : ℕ) (place : Place) (kind : Kind) (access : ℕ) (rest : List Line) (base imm mid : ℕ) → n ≡ 0 → Means p constant n → Based p c.pc place base imm mid → Holds p.image mid (storing (store_op kind) base 0 imm) → Stands p r.f.blocks.items s.frame.function (frame_of g s.frame.function) (mid + 4) rest s.frame.spot.exit → After p u g s.fuel 3 c m (writes (site_of access kind) (write_place place kind constant s.frame.active s.frame.registers s.store) rest s)
+stored_after p u g l s c m r constant n place kind access rest base imm mid nought means based_ h code =
     let b = based p s.frame.registers s.frame.active s.store _ m c.pc c.x place base imm mid (let d = r.ordered.0 in let q = l.at.stack in omega arith) l.at.near r.linked.0 r.fixed r.mapped r.regs based_ in
-    writes_after p u g l.at.first s c m r 0 b.w base imm mid kind (site_of access kind) (write_place place kind (Number z) s.frame.active s.frame.registers s.store) rest (omega arith) refl b.ready h code
-    (λ f e. let q = write_place_fine p place kind (Number z) s.frame.active s.frame.registers s.store f e in
-    record { lands = (b.means (Pointer f.at.object f.at.offset) q.place_is).0; taken = q.taken; value = stored_means p kind (Number z) q.taken (c.x 0) q.taken_is (r.regs.zero_reg ∙ sym nought); write = q.write })
+    let by_zero : Means p constant (c.x 0) = subst (λ q. Means p constant q) (nought ∙ sym r.regs.zero_reg) means in
+    writes_after p u g l.at.first s c m r 0 b.w base imm mid kind (site_of access kind) (write_place place kind constant s.frame.active s.frame.registers s.store) rest (omega arith) refl b.ready h code
+    (λ f e. let q = write_place_fine p place kind constant s.frame.active s.frame.registers s.store f e in
+    record { lands = (b.means (Pointer f.at.object f.at.offset) q.place_is).0; taken = q.taken; value = stored_means p kind constant q.taken (c.x 0) q.taken_is by_zero; write = q.write })
 
 page : (hi : ℕ) → sum_of (hi * 4096 % 2 ^ 32) 0 ≡ hi * 4096 % 2 ^ 32
 page hi = omega arith

@@ -3,6 +3,8 @@ use Rattle.std.proofs.Common.{◌≡◌, ◌≢◌, ℕ, zero, suc, ◌*◌, ◌
 use Rattle.std.specs.Prelude.{nat_lt, not, ◌==◌, int_div, int_rem}
 use Rattle.std.specs.Int.{int_div_euclid}
 use Rattle.std.proofs.lemmas.Bool.Decides.{nat_tests}
+use Rattle.std.proofs.lemmas.Nat.{and_comm, or_comm, xor_comm}
+use Rattle.std.proofs.Math.Nat.{mul_comm}
 use Rattle.im_num.specs.declared.kind.Kind.{Kind}
 use Rattle.im_num.specs.declared.kind.Kind.TheVariants.{I32, U32}
 use Rattle.im_num.specs.Kinds.{bits, is_signed, wrap, word}
@@ -10,7 +12,7 @@ use Rattle.im_rv.specs.declared.effect.Effect.TheVariants.{Puts}
 use Rattle.im_rv.specs.Steps.{sum_of, as_number as number_as, difference_of, row, signed, shift_right, shift_right_signed}
 use Rattle.im_rv.specs.declared.instr.Op.{Op}
 use Rattle.im_rv.specs.declared.instr.Op.TheVariants.{Sra, Srl, Srai, Srli}
-use Rattle.im_select_relation.specs.OperatorTables.{IsPromoted, operation}
+use Rattle.im_select_relation.specs.OperatorTables.{IsPromoted, operation, commutes}
 use Rattle.im_select_relation.proofs.Words.{word_of, word_small, word_wrap, wrap_unsigned, wrap_signed}
 use Rattle.im_select_relation.proofs.Arithmetic.{sum_word, difference_word, word_product, and_word, or_word, xor_word, shifted_word}
 use Rattle.im_select_relation.proofs.Division.{unsigned_quotient, unsigned_remainder, signed_quotient, signed_remainder, signed_shift, unsigned_shift}
@@ -127,18 +129,34 @@ computed_row p op k v w x y z pc imm h e m n =
     ∙ operator_row op k c.z r.a z pc imm h (subst (λ q. apply op k q (right_of op k r.a) ≡ Fine z) c.is r.second)
 
 -- an instruction with an immediate is that of registers, of which one has the constant
-pub immediate_row : (z : ℤ) (k : Kind) (op : BinaryOp) (by : Op) (imm pc x y : ℕ) → Immediate z k op by imm → row by pc x y imm ≡ row (operation op k) pc x (word z) 0
-immediate_row z k op by imm pc x y AddsBy = refl
-immediate_row z k op by imm pc x y (SubtractsBy n e) = let s = word_small z in let q : sum_of x n ≡ difference_of x (word z) = omega arith in ap (λ a. Puts a (sum_of pc 4)) q
-immediate_row z k op by imm pc x y AndsBy = refl
-immediate_row z k op by imm pc x y OrsBy = refl
-immediate_row z k op by imm pc x y XorsBy = refl
-immediate_row z k op by imm pc x y ShiftsLeftBy = refl
-immediate_row z k op by imm pc x y ShiftsRightBy = by_kind (is_signed k)
+pub immediate_row : (n : ℕ) (k : Kind) (op : BinaryOp) (by : Op) (imm pc x y : ℕ) → n < 2 ^ 32 → Immediate n k op by imm → row by pc x y imm ≡ row (operation op k) pc x n 0
+immediate_row n k op by imm pc x y small AddsBy = refl
+immediate_row n k op by imm pc x y small (SubtractsBy i e) = let q : sum_of x i ≡ difference_of x n = omega arith in ap (λ a. Puts a (sum_of pc 4)) q
+immediate_row n k op by imm pc x y small AndsBy = refl
+immediate_row n k op by imm pc x y small OrsBy = refl
+immediate_row n k op by imm pc x y small XorsBy = refl
+immediate_row n k op by imm pc x y small ShiftsLeftBy = refl
+immediate_row n k op by imm pc x y small ShiftsRightBy = by_kind (is_signed k)
   where
-    by_kind : (t : Bool) → row (cond t Srai Srli) pc x y (word z) ≡ row (cond t Sra Srl) pc x (word z) 0
+    by_kind : (t : Bool) → row (cond t Srai Srli) pc x y n ≡ row (cond t Sra Srl) pc x n 0
     by_kind true = refl
     by_kind false = refl
+
+-- operands that change places
+sum_turned : (x y : ℕ) → sum_of x y ≡ sum_of y x
+sum_turned x y = omega arith
+
+pub turned_row : (op : BinaryOp) (k : Kind) (pc x y imm : ℕ) → commutes op ≡ true → row (operation op k) pc x y imm ≡ row (operation op k) pc y x imm
+turned_row Add k pc x y imm e = ap (λ a. Puts a (sum_of pc 4)) (sum_turned x y)
+turned_row Subtract k pc x y imm e = absurd cc
+turned_row Multiply k pc x y imm e = ap (λ a. Puts (a % 2 ^ 32) (sum_of pc 4)) (mul_comm x y)
+turned_row Divide k pc x y imm e = absurd cc
+turned_row Remainder k pc x y imm e = absurd cc
+turned_row BitAnd k pc x y imm e = ap (λ a. Puts a (sum_of pc 4)) (and_comm x y)
+turned_row BitOr k pc x y imm e = ap (λ a. Puts a (sum_of pc 4)) (or_comm x y)
+turned_row BitXor k pc x y imm e = ap (λ a. Puts a (sum_of pc 4)) (xor_comm x y)
+turned_row ShiftLeft k pc x y imm e = absurd cc
+turned_row ShiftRight k pc x y imm e = absurd cc
 
 -- a value as a condition: its word is other than 0
 pub condition_word : (p : Linking) (store : Store) (frames : List Mark) (v : Value) (w : ℕ) (b : Bool) → Mapped p store.shape frames → condition store v ≡ Fine b → Means p v w → b ≡ not (w == 0)

@@ -1,5 +1,5 @@
 -- Each step of placed code on the machine, and whole runs.
-use Rattle.std.proofs.Common.{◌≡◌, ◌≢◌, ℕ, zero, suc, ◌+◌, ◌-◌, ◌<◌, ◌≤◌, inl, inr, Bool, true, false, cond, List, [], ◌∷◌, ◌++◌, Some, None, ℤ, sym, ap, ◌∙◌, subst, refl, append_assoc, arith}
+use Rattle.std.proofs.Common.{◌≡◌, ◌≢◌, ℕ, zero, suc, ◌+◌, ◌-◌, ◌^◌, ◌<◌, ◌≤◌, inl, inr, Bool, true, false, cond, List, [], ◌∷◌, ◌++◌, Some, None, ℤ, sym, ap, ◌∙◌, subst, refl, append_assoc, arith}
 use Rattle.std.specs.Prelude.{◌==◌, ◌||◌, not, slice_get, replicate, pos}
 use Rattle.std.proofs.lemmas.Bool.Decides.{nat_tests}
 use Rattle.std.proofs.lemmas.List.{append-nil}
@@ -21,8 +21,8 @@ use Rattle.im_rv_reach.specs.Instructions.{jumping}
 use Rattle.im_rv_reach.proofs.Reach.{plus_is, nothing, no_back, leaps, begins_trans, before_or_after}
 use Rattle.im_rv_reach.proofs.Orderly.{joined}
 use Rattle.im_select_relation.specs.OperatorTables.{cell_word}
-use Rattle.im_store.specs.Checks.{Fine}
-use Rattle.im_store.specs.declared.operators.BinaryOp.{BinaryOp}
+use Rattle.im_select_relation.proofs.Words.{word_small}
+use Rattle.im_store.specs.Checks.{Checked, Fine}
 use Rattle.im_store.specs.Objects.{Name, Named, Slot, Link, Object, static, Value, Number, Null, Unset, Shape, Store}
 use Rattle.im_store.specs.Outcomes.{Outcome, Undef, More, End, IsDefined}
 use Rattle.im_store.specs.Statics.{static_shapes, static_values, with_statics}
@@ -40,8 +40,8 @@ use Rattle.im_block.specs.Runs.{Over, goes_on, exec, before, start}
 use Rattle.im_block.specs.Shape.{narrowing, spot_weight, next_weight, after, spent, exit_words}
 use Rattle.im_select_relation.specs.Linking.{Linking, pointer_at, frame_of, address, Means}
 use Rattle.im_alloc_relation.specs.Live.{uses, place_uses}
-use Rattle.im_live.specs.Reads.{lives_before, lives_in, reads_first}
-use Rattle.im_select_relation.specs.Selected.{IsHome, nonzero, comparing, Tested, ExitAt, IsDead, ZeroNumber, ZeroPointer, or_zero, Joined, Decides, DecidesByZero, IsUnread, IsSpent, Folded, ComputesBy, StoresZero, Stands, Paired}
+use Rattle.im_live.specs.Reads.{lives_before, lives_in, reads_first, writes as sets_of}
+use Rattle.im_select_relation.specs.Selected.{IsHome, nonzero, comparing, Tested, ExitAt, IsDead, IsConstant, ConstantNumber, ConstantNull, or_zero, Joined, Decides, DecidesByZero, IsUnread, IsSpent, Folded, ComputesBy, ComputesFrom, ComparesBy, StoresZero, Stands, Paired}
 use Rattle.im_select_relation.specs.Law.{Touches, Nothing, Reading, Writing, Testing, Saving, Restoring, Serving, Cutting, ShowsStatics, steps, Shows}
 use Rattle.im_select_relation.proofs.Registers.{RegsMean, means_at, two_ways, register_same, register_other}
 use Rattle.im_select_relation.proofs.Mapped.{Mapped, object_is, base_static}
@@ -52,9 +52,9 @@ use Rattle.im_select_relation.proofs.Relation.{Rel, SlotsShaped, Finished, After
 use Rattle.im_select_relation.proofs.Ends.{jumps, continues, Passed, Decided, nonzero_decided, comparing_decided, tested}
 use Rattle.im_select_relation.proofs.Operators.{truth_word, condition_word}
 use Rattle.im_select_relation.proofs.Calls.{first_after, enter_after, back_after, clears, gives}
-use Rattle.im_select_relation.proofs.Lines.{compared_word, folded_after, stored_after, line_after}
+use Rattle.im_select_relation.proofs.Lines.{compared_word, folded_after, turned_after, compared_after, stored_after, line_after}
 use Rattle.im_select_relation.proofs.Alike.{shaded, AlikeAt, Going, checked_both, same_function, alike_in, used_lives, operand, left_is, right_is, other_is, behind_lives, line_both, exit_both}
-use Rattle.im_select_relation.proofs.Stood.{truth_value, decided, Waiting, bearing, Zeroing, Stood, Shaded, Waits, Bears, Zeroes, Brought, Brings, both_brings, same_brings, checked_brings}
+use Rattle.im_select_relation.proofs.Stood.{truth_value, decided, Waiting, bearing, SetsOnly, Bearing, Zeroing, Stood, Shaded, Waits, Bears, Zeroes, Brought, Brings, both_brings, same_brings, checked_brings}
 use Rattle.im_select_relation.proofs.Fuel.{Paid, step_paid}
 
 same_regs : (p : Linking) (registers : ℕ → Value) (sp : ℕ) (x y : ℕ → ℕ) → RegsMean p registers sp x → ((i : ℕ) → y i ≡ x i) → RegsMean p registers sp y
@@ -171,7 +171,7 @@ joined_brings p u g s c m registers r line rest exit words is alike (Decides to 
             ];
           }));
     })
-joined_brings p u g s c m registers r line rest exit words is alike (DecidesByZero line' q to op kind left right a b (ZeroNumber q' z e) hl hr k sa sb da db way) =
+joined_brings p u g s c m registers r line rest exit words is alike (DecidesByZero line' q to op kind left right a b (ConstantNumber q' n z e) hl hr k sa sb da db way) =
     zeroed_brings p u g s c m words (record {
       registers = registers;
       rel = r;
@@ -196,7 +196,7 @@ joined_brings p u g s c m registers r line rest exit words is alike (DecidesByZe
       alike = alike;
       tested = way;
     })
-joined_brings p u g s c m registers r line rest exit words is alike (DecidesByZero line' q to op kind left right a b (ZeroPointer q') hl hr k sa sb da db way) =
+joined_brings p u g s c m registers r line rest exit words is alike (DecidesByZero line' q to op kind left right a b (ConstantNull q') hl hr k sa sb da db way) =
     zeroed_brings p u g s c m words (record {
       registers = registers;
       rel = r;
@@ -332,8 +332,8 @@ waited_brings p u g l s c m w =
 -- ---- a constant and the line that uses it, as one
 
 -- the constant: no instruction yet
-borne_brings : (p : Linking) (u : Code) (g : Setting) (s : State) (c : Cpu) (m : Mem) (registers : ℕ → Value) (r : Rel p u g (shaded s registers) c m) (line user : Line) (rest : List Line) (words next : ℕ) → AlikeAt r.f.blocks.items (line ∷ user ∷ rest) s.frame.spot.exit s.frame.registers registers → Folded p r.f.blocks.items c.pc line user rest s.frame.spot.exit next → Stands p r.f.blocks.items s.frame.function (frame_of g s.frame.function) next rest s.frame.spot.exit → Brings p u g s.fuel words c m (does u g line (user ∷ rest) s)
-borne_brings p u g s c m registers r line user rest words next alike (ComputesBy q z to op kind left rest' exit' by imm home a ne k is spent h) code = record {
+borne_brings : (p : Linking) (u : Code) (g : Setting) (s : State) (c : Cpu) (m : Mem) (words : ℕ) (w : Bearing p u g s c m) → Brought p u g s.fuel words c m (bearing s w.r w.value (w.user ∷ w.rest)) []
+borne_brings p u g s c m words w = record {
   n = zero;
   worth = omega arith;
   few = omega arith;
@@ -343,128 +343,147 @@ borne_brings p u g s c m registers r line user rest words next alike (ComputesBy
   touches = Nothing;
   orderly = refl;
   reach = nothing c m;
-  stood = Bears s c m (record {
-    registers = registers;
-    rel = r;
-    r = q;
-    z = z;
-    user = Compute to op kind left q;
-    rest = rest;
-    next = c.pc + 4;
-    alike = alike;
-    folded = ComputesBy q z to op kind left rest s.frame.spot.exit by imm home a ne k is spent h;
-    code = code;
-  });
+  stood = Bears s c m w;
 }
-borne_brings p u g s c m registers r line user rest words next alike (StoresZero q z place kind access rest' exit' base imm mid nought apart unread b h) code = record {
-  n = 0;
-  worth = omega arith;
-  few = omega arith;
-  d = c;
-  k = m;
-  ts = [];
-  touches = Nothing;
-  orderly = refl;
-  reach = nothing c m;
-  stood = Bears s c m (record {
-    registers = registers;
-    rel = r;
-    r = q;
-    z = z;
-    user = Write place kind q access;
-    rest = rest;
-    next = mid + 4;
-    alike = alike;
-    folded = StoresZero q z place kind access rest s.frame.spot.exit base imm mid nought apart unread b h;
-    code = code;
-  });
-}
+
+constant_brings : (p : Linking) (u : Code) (g : Setting) (s : State) (c : Cpu) (m : Mem) (registers : ℕ → Value) (r : Rel p u g (shaded s registers) c m) (line user : Line) (rest : List Line) (words q n next : ℕ) → AlikeAt r.f.blocks.items (line ∷ user ∷ rest) s.frame.spot.exit s.frame.registers registers → IsConstant line q n → Folded p r.f.blocks.items c.pc q n user rest s.frame.spot.exit next → Stands p r.f.blocks.items s.frame.function (frame_of g s.frame.function) next rest s.frame.spot.exit → Brings p u g s.fuel words c m (does u g line (user ∷ rest) s)
+constant_brings p u g s c m registers r line user rest words q n next alike (ConstantNumber q' n' z e) folded code =
+    borne_brings p u g s c m words (record {
+      registers = registers;
+      rel = r;
+      line = Put q z;
+      r = q;
+      value = Number z;
+      n = n;
+      user = user;
+      rest = rest;
+      next = next;
+      sets = λ i ne. other_is i q ne;
+      small = (let k = word_small z in omega arith);
+      means = sym e;
+      alike = alike;
+      folded = folded;
+      code = code;
+    })
+constant_brings p u g s c m registers r line user rest words q n next alike (ConstantNull q') folded code =
+    borne_brings p u g s c m words (record {
+      registers = registers;
+      rel = r;
+      line = PutNull q;
+      r = q;
+      value = Null;
+      n = 0;
+      user = user;
+      rest = rest;
+      next = next;
+      sets = λ i ne. other_is i q ne;
+      small = omega arith;
+      means = refl;
+      alike = alike;
+      folded = folded;
+      code = code;
+    })
 
 paired_brings : (p : Linking) (u : Code) (g : Setting) (s : State) (c : Cpu) (m : Mem) (registers : ℕ → Value) (r : Rel p u g (shaded s registers) c m) (line : Line) (rest : List Line) (words : ℕ) → AlikeAt r.f.blocks.items (line ∷ rest) s.frame.spot.exit s.frame.registers registers → Paired p r.f.blocks.items s.frame.function (frame_of g s.frame.function) c.pc line rest s.frame.spot.exit → Brings p u g s.fuel words c m (does u g line rest s)
 paired_brings p u g s c m registers r line [] words alike h = absurd h
-paired_brings p u g s c m registers r line (user ∷ rest) words alike h = borne_brings p u g s c m registers r line user rest words h.0 alike h.1 h.2
+paired_brings p u g s c m registers r line (user ∷ rest) words alike h = constant_brings p u g s c m registers r line user rest words h.0 h.1 h.2 alike h.3 h.4 h.5
 
--- registers that live behind the two: the constant's is none of them, or is set
-module _ (blocks : List Block) (exit : Exit) (old registers : ℕ → Value) (r : ℕ) (z : ℤ) (to : ℕ) (op : BinaryOp) (kind : Kind) (left : ℕ) (rest : List Line) (ne : left ≢ r) (spent : IsSpent blocks rest exit to r) (alike : AlikeAt blocks (Put r z ∷ Compute to op kind left r ∷ rest) exit old registers) where
+-- registers behind a constant and its user
+module _ (blocks : List Block) (exit : Exit) (old registers : ℕ → Value) (line : Line) (r : ℕ) (value : Value) (sets : SetsOnly line r) (user : Line) (rest : List Line) (alike : AlikeAt blocks (line ∷ user ∷ rest) exit old registers) where
   abbrev borne : ℕ → Value
-  borne = with_register old r (Number z)
+  borne = with_register old r value
 
-  abbrev taking : Line
-  taking = Compute to op kind left r
+  -- that the user reads, but the constant's
+  operand_still : (q : ℕ) → q ≢ r → uses user q ≡ true → registers q ≡ borne q
+  operand_still q ne used =
+      alike q 0 (behind_lives (reads_first blocks 0) line (user ∷ rest) exit q (sets q ne) (used_lives (reads_first blocks 0) user rest exit q used)) ∙ sym (register_other old r value q ne)
 
-  left_still : registers left ≡ borne left
-  left_still =
-      let used = used_lives (reads_first blocks 0) taking rest exit left (left_is left r) in
-      alike left 0 (behind_lives (reads_first blocks 0) (Put r z) (taking ∷ rest) exit left (other_is left r ne) used) ∙ sym (register_other old r (Number z) left ne)
+  -- that live behind it, where it doesn't set them: the constant's is none of them
+  behind_still : (q n : ℕ) → q ≢ r → sets_of user q ≡ false → lives_before (reads_first blocks n) rest exit q ≡ true → registers q ≡ borne q
+  behind_still q n ne unset h =
+      alike q n (behind_lives (reads_first blocks n) line (user ∷ rest) exit q (sets q ne) (behind_lives (reads_first blocks n) user rest exit q unset h)) ∙ sym (register_other old r value q ne)
 
-  still : (q n : ℕ) → q ≢ to → lives_before (reads_first blocks n) rest exit q ≡ true → registers q ≡ borne q
-  still q n other h = elim (two_ways q r) [
-    | inl same ↦ absurd (elim spent [
-      | inl e ↦ other (same ∙ e)
-      | inr dead ↦ (let lives : lives_before (reads_first blocks n) rest exit r ≡ true = ap (λ x. lives_before (reads_first blocks n) rest exit x) (sym same) ∙ h in let none = dead n in let bad : true ≡ false = sym lives ∙ none in cc)
-    ])
-    | inr apart ↦ (
-        let behind = behind_lives (reads_first blocks n) taking rest exit q (other_is q to other) h in
-        alike q n (behind_lives (reads_first blocks n) (Put r z) (taking ∷ rest) exit q (other_is q r apart) behind) ∙ sym (register_other old r (Number z) q apart)
-        )
-  ]
+  unread_not : (q n : ℕ) → IsUnread blocks rest exit r → q ≡ r → lives_before (reads_first blocks n) rest exit q ≡ true → ⊥
+  unread_not q n unread same h = let lives : lives_before (reads_first blocks n) rest exit r ≡ true = ap (λ x. lives_before (reads_first blocks n) rest exit x) (sym same) ∙ h in let none = unread n in let bad : true ≡ false = sym lives ∙ none in cc
 
-  used_alike : (v : Value) → AlikeAt blocks rest exit (with_register borne to v) (with_register registers to v)
-  used_alike v q n h = elim (two_ways q to) [
+  spent_not : (q n to : ℕ) → IsSpent blocks rest exit to r → q ≢ to → q ≡ r → lives_before (reads_first blocks n) rest exit q ≡ true → ⊥
+  spent_not q n to (inl e) other same h = other (same ∙ e)
+  spent_not q n to (inr unread) other same h = unread_not q n unread same h
+
+  -- behind a user that sets a register
+  set_alike : (to : ℕ) → SetsOnly user to → IsSpent blocks rest exit to r → (v : Value) → AlikeAt blocks rest exit (with_register borne to v) (with_register registers to v)
+  set_alike to only spent v q n h = elim (two_ways q to) [
     | inl same ↦ ap (with_register registers to v) same ∙ register_same registers to v ∙ sym (register_same borne to v) ∙ ap (with_register borne to v) (sym same)
-    | inr other ↦ register_other registers to v q other ∙ still q n other h ∙ sym (register_other borne to v q other)
+    | inr other ↦ elim (two_ways q r) [
+      | inl is ↦ absurd (spent_not q n to spent other is h)
+      | inr apart ↦ register_other registers to v q other ∙ behind_still q n apart (only q other) h ∙ sym (register_other borne to v q other)
+    ]
   ]
 
--- registers that live behind a store of a zero: the zero's is none of them
-module _ (blocks : List Block) (exit : Exit) (old registers : ℕ → Value) (r : ℕ) (z : ℤ) (place : Place) (kind : Kind) (access : ℕ) (rest : List Line) (apart : place_uses place r ≡ false) (unread : IsUnread blocks rest exit r) (alike : AlikeAt blocks (Put r z ∷ Write place kind r access ∷ rest) exit old registers) where
-  abbrev storing_ : Line
-  storing_ = Write place kind r access
-
-  stored_alike : AlikeAt blocks rest exit (with_register old r (Number z)) registers
-  stored_alike q n h = elim (two_ways q r) [
-    | inl same ↦ absurd (let lives : lives_before (reads_first blocks n) rest exit r ≡ true = ap (λ x. lives_before (reads_first blocks n) rest exit x) (sym same) ∙ h in let none = unread n in let bad : true ≡ false = sym lives ∙ none in cc)
-    | inr other ↦ alike q n (behind_lives (reads_first blocks n) (Put r z) (storing_ ∷ rest) exit q (other_is q r other) (behind_lives (reads_first blocks n) storing_ rest exit q refl h)) ∙ sym (register_other old r (Number z) q other)
+  -- behind one that sets none
+  unset_alike : ((q : ℕ) → sets_of user q ≡ false) → IsUnread blocks rest exit r → AlikeAt blocks rest exit borne registers
+  unset_alike unset unread q n h = elim (two_ways q r) [
+    | inl is ↦ absurd (unread_not q n unread is h)
+    | inr apart ↦ behind_still q n apart (unset q) h
   ]
-
-  place_still : (q : ℕ) → place_uses place q ≡ true → registers q ≡ with_register old r (Number z) q
-  place_still q e =
-      let other : q ≢ r = (λ same. let bad : true ≡ false = sym e ∙ ap (place_uses place) same ∙ apart in cc) in
-      let used : uses storing_ q ≡ true = ap (λ t. t || q == r) e in
-      alike q 0 (behind_lives (reads_first blocks 0) (Put r z) (storing_ ∷ rest) exit q (other_is q r other) (used_lives (reads_first blocks 0) storing_ rest exit q used)) ∙ sym (register_other old r (Number z) q other)
 
 write_same : (place : Place) (kind : Kind) (v : Value) (by : Active) (a b : ℕ → Value) (store : Store) → ((q : ℕ) → place_uses place q ≡ true → b q ≡ a q) → write_place place kind v by b store ≡ write_place place kind v by a store
 write_same (Static object offset) kind v by a b store h = refl
 write_same (Local object offset) kind v by a b store h = refl
 write_same (Through pointer offset) kind v by a b store h = ap (λ w. write_place (Through pointer offset) kind v by (λ i. w) store) (h pointer (let t : (pointer == pointer) ≡ true = grind (arith, nat_tests) in t))
 
--- the line that uses it
-user_brings : (p : Linking) (u : Code) (g : Setting) → Premises p u g → (s : State) (c : Cpu) (m : Mem) (registers : ℕ → Value) (r : Rel p u g (shaded s registers) c m) (q : ℕ) (z : ℤ) (user : Line) (rest : List Line) (next : ℕ) → AlikeAt r.f.blocks.items (Put q z ∷ user ∷ rest) s.frame.spot.exit s.frame.registers registers → Folded p r.f.blocks.items c.pc (Put q z) user rest s.frame.spot.exit next → Stands p r.f.blocks.items s.frame.function (frame_of g s.frame.function) next rest s.frame.spot.exit → Brings p u g s.fuel (next_weight (steps p) (user ∷ rest) s.frame.spot.exit) c m (does u g user rest (bearing s q (Number z) (user ∷ rest)))
-user_brings p u g l s c m registers r q z user rest next alike (ComputesBy q' z' to op kind left rest' exit' by imm home a ne k is spent h) code =
-    let blocks : List Block = r.f.blocks.items in
-    let line : Line = Compute to op kind left q in
-    let was : State = bearing s q (Number z) (line ∷ rest) in
-    let old : ℕ → Value = was.frame.registers in
-    let el = left_still blocks s.frame.spot.exit s.frame.registers registers q z to op kind left rest ne spent alike in
-    let er = sym (register_same s.frame.registers q (Number z)) in
-    let same : as_number (computed op kind (registers left) (Number z)) ≡ as_number (computed op kind (old left) (old q)) = ap (λ x. as_number (computed op kind x (Number z))) el ∙ ap (λ x. as_number (computed op kind (old left) x)) er in
-    both_brings p u g s.fuel (1 + narrowing kind) c m (computes to (as_number (computed op kind (old left) (old q))) rest was) (computes to (as_number (computed op kind (registers left) (Number z))) rest (shaded s registers))
+-- a user that sets a register
+set_brings : (p : Linking) (u : Code) (g : Setting) (s : State) (c : Cpu) (m : Mem) (registers : ℕ → Value) (r : Rel p u g (shaded s registers) c m) (line : Line) (q : ℕ) (value : Value) (user : Line) (rest : List Line) (words to : ℕ) (o now : Checked Value) → SetsOnly line q → AlikeAt r.f.blocks.items (line ∷ user ∷ rest) s.frame.spot.exit s.frame.registers registers → SetsOnly user to → IsSpent r.f.blocks.items rest s.frame.spot.exit to q → now ≡ o → After p u g s.fuel words c m (computes to now rest (shaded s registers)) → Brings p u g s.fuel words c m (computes to o rest (bearing s q value (user ∷ rest)))
+set_brings p u g s c m registers r line q value user rest words to o now sets alike only spent same after =
+    let was : State = bearing s q value (user ∷ rest) in
+    both_brings p u g s.fuel words c m (computes to o rest was) (computes to now rest (shaded s registers))
     (checked_both u _ _ _ _ same (λ v e.
-    let now : State = record was { frame = record (with_rest was.frame rest) { registers = with_register old to v } } in
-    Going now (with_register registers to v) [] (alike_in u now (with_register registers to v) r.f r.is (used_alike blocks s.frame.spot.exit s.frame.registers registers q z to op kind left rest ne spent alike v))))
-    (folded_after p u g (shaded s registers) c m r z to op kind left rest by imm home a k is h code)
-user_brings p u g l s c m registers r q z user rest next alike (StoresZero q' z' place kind access rest' exit' base imm mid nought apart unread b h) code =
+    let next : State = record was { frame = record (with_rest was.frame rest) { registers = with_register was.frame.registers to v } } in
+    Going next (with_register registers to v) [] (alike_in u next (with_register registers to v) r.f r.is (set_alike r.f.blocks.items s.frame.spot.exit s.frame.registers registers line q value sets user rest alike to only spent v))))
+    after
+
+-- the line that uses it
+user_brings : (p : Linking) (u : Code) (g : Setting) → Premises p u g → (s : State) (c : Cpu) (m : Mem) (registers : ℕ → Value) (r : Rel p u g (shaded s registers) c m) (line : Line) (q : ℕ) (value : Value) (n : ℕ) (user : Line) (rest : List Line) (next : ℕ) → SetsOnly line q → n < 2 ^ 32 → Means p value n → AlikeAt r.f.blocks.items (line ∷ user ∷ rest) s.frame.spot.exit s.frame.registers registers → Folded p r.f.blocks.items c.pc q n user rest s.frame.spot.exit next → Stands p r.f.blocks.items s.frame.function (frame_of g s.frame.function) next rest s.frame.spot.exit → Brings p u g s.fuel (next_weight (steps p) (user ∷ rest) s.frame.spot.exit) c m (does u g user rest (bearing s q value (user ∷ rest)))
+user_brings p u g l s c m registers r line q value n user rest next sets small means alike (ComputesBy to op kind left rest' exit' by imm home a ne k is spent h) code =
+    let user : Line = Compute to op kind left q in
+    let old : ℕ → Value = with_register s.frame.registers q value in
+    let el = operand_still r.f.blocks.items s.frame.spot.exit s.frame.registers registers line q value sets user rest alike left ne (left_is left q) in
+    let er = sym (register_same s.frame.registers q value) in
+    set_brings p u g s c m registers r line q value user rest (1 + narrowing kind) to (as_number (computed op kind (old left) (old q))) (as_number (computed op kind (registers left) value)) sets alike (λ i other. other_is i to other) spent
+    (ap (λ x. as_number (computed op kind x value)) el ∙ ap (λ x. as_number (computed op kind (old left) x)) er)
+    (folded_after p u g (shaded s registers) c m r value n to op kind left rest by imm small means home a k is h code)
+user_brings p u g l s c m registers r line q value n user rest next sets small means alike (ComputesFrom to op kind right rest' exit' by imm home a ne k turns is spent h) code =
+    let user : Line = Compute to op kind q right in
+    let old : ℕ → Value = with_register s.frame.registers q value in
+    let er = operand_still r.f.blocks.items s.frame.spot.exit s.frame.registers registers line q value sets user rest alike right ne (right_is q right) in
+    let el = sym (register_same s.frame.registers q value) in
+    set_brings p u g s c m registers r line q value user rest (1 + narrowing kind) to (as_number (computed op kind (old q) (old right))) (as_number (computed op kind value (registers right))) sets alike (λ i other. other_is i to other) spent
+    (ap (λ x. as_number (computed op kind value x)) er ∙ ap (λ x. as_number (computed op kind x (old right))) el)
+    (turned_after p u g (shaded s registers) c m r value n to op kind right rest by imm small means home a k turns is h code)
+user_brings p u g l s c m registers r line q value n user rest next sets small means alike (ComparesBy to op kind left rest' exit' next' home a ne k spent h) code =
+    let user : Line = Compare to op kind left q in
+    let old : ℕ → Value = with_register s.frame.registers q value in
+    let el = operand_still r.f.blocks.items s.frame.spot.exit s.frame.registers registers line q value sets user rest alike left ne (left_is left q) in
+    let er = sym (register_same s.frame.registers q value) in
+    set_brings p u g s c m registers r line q value user rest 2 to (as_truth (compared s.store op kind (old left) (old q))) (as_truth (compared s.store op kind (registers left) value)) sets alike (λ i other. other_is i to other) spent
+    (ap (λ x. as_truth (compared s.store op kind x value)) el ∙ ap (λ x. as_truth (compared s.store op kind (old left) x)) er)
+    (compared_after p u g (shaded s registers) c m r value n to op kind left rest next small means home a k h code)
+user_brings p u g l s c m registers r line q value n user rest next sets small means alike (StoresZero place kind access rest' exit' base imm mid nought apart unread b h) code =
     let blocks : List Block = r.f.blocks.items in
-    let line : Line = Write place kind q access in
-    let was : State = bearing s q (Number z) (line ∷ rest) in
+    let user : Line = Write place kind q access in
+    let was : State = bearing s q value (user ∷ rest) in
     let old : ℕ → Value = was.frame.registers in
     let by : Active = s.frame.active in
-    let same : write_place place kind (Number z) by registers s.store ≡ write_place place kind (old q) by old s.store =
-    write_same place kind (Number z) by old registers s.store (place_still blocks s.frame.spot.exit s.frame.registers registers q z place kind access rest apart unread alike) ∙ ap (λ v. write_place place kind v by old s.store) (sym (register_same s.frame.registers q (Number z))) in
-    both_brings p u g s.fuel 3 c m (writes (site_of access kind) (write_place place kind (old q) by old s.store) rest was) (writes (site_of access kind) (write_place place kind (Number z) by registers s.store) rest (shaded s registers))
+    let still : (i : ℕ) → place_uses place i ≡ true → registers i ≡ old i = (λ i e.
+        (let other : i ≢ q = (λ same. (let bad : true ≡ false = sym e ∙ ap (place_uses place) same ∙ apart in cc)) in
+        operand_still blocks s.frame.spot.exit s.frame.registers registers line q value sets user rest alike i other (ap (λ t. t || i == q) e))) in
+    let same : write_place place kind value by registers s.store ≡ write_place place kind (old q) by old s.store =
+    write_same place kind value by old registers s.store still ∙ ap (λ v. write_place place kind v by old s.store) (sym (register_same s.frame.registers q value)) in
+    both_brings p u g s.fuel 3 c m (writes (site_of access kind) (write_place place kind (old q) by old s.store) rest was) (writes (site_of access kind) (write_place place kind value by registers s.store) rest (shaded s registers))
     (checked_both u _ _ _ _ same (λ left e.
     let now : State = record was { frame = with_rest was.frame rest; store = left.store } in
-    Going now registers _ (alike_in u now registers r.f r.is (stored_alike blocks s.frame.spot.exit s.frame.registers registers q z place kind access rest apart unread alike))))
-    (stored_after p u g l (shaded s registers) c m r z place kind access rest base imm mid nought b h code)
+    Going now registers _ (alike_in u now registers r.f r.is (unset_alike blocks s.frame.spot.exit s.frame.registers registers line q value sets user rest alike (λ i. refl) unread))))
+    (stored_after p u g l (shaded s registers) c m r value n place kind access rest base imm mid nought means b h code)
 
 -- ---- a step
 
@@ -477,7 +496,7 @@ shaded_brings p u g l s c m registers r (line ∷ rest) alike (inr (inr code)) =
 pub stood_brings : (p : Linking) (u : Code) (g : Setting) → Premises p u g → (s : State) (c : Cpu) (m : Mem) → Stood p u g s c m → Brings p u g s.fuel (spot_weight (steps p) s.frame.spot) c m (step u g s)
 stood_brings p u g l s c m (Shaded s' c' m' registers alike r) = shaded_brings p u g l s' c m registers r s'.frame.spot.rest (alike r.f r.is) r.code
 stood_brings p u g l s c m (Waits s' c' m' w) = subst (λ z. Brings p u g s'.fuel (exit_words z) c m (leaves u g z (decided s' w.old w.to w.holds))) (sym w.exit) (waited_brings p u g l s' c m w)
-stood_brings p u g l s c m (Bears s' c' m' w) = user_brings p u g l s' c m w.registers w.rel w.r w.z w.user w.rest w.next w.alike w.folded w.code
+stood_brings p u g l s c m (Bears s' c' m' w) = user_brings p u g l s' c m w.registers w.rel w.line w.r w.value w.n w.user w.rest w.next w.sets w.small w.means w.alike w.folded w.code
 stood_brings p u g l s c m (Zeroes s' c' m' w) = compare_brings p u g s' c' m' w 2
 
 pub touches_append : (p : Linking) (a b : List Event) (ts us : List Touch) → Touches p a ts → Touches p b us → Touches p (a ++ b) (ts ++ us)

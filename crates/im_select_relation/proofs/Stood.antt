@@ -1,5 +1,5 @@
 -- A state of placed code and a state of the machine that stands for it, but for registers that nothing reads.
-use Rattle.std.proofs.Common.{◌≡◌, ◌≢◌, ◌⊎◌, ℕ, suc, ◌+◌, ◌≤◌, Bool, true, false, cond, ℤ, List, [], ◌∷◌, refl, pos}
+use Rattle.std.proofs.Common.{◌≡◌, ◌≢◌, ◌⊎◌, ℕ, suc, ◌+◌, ◌^◌, ◌<◌, ◌≤◌, Bool, true, false, cond, List, [], ◌∷◌, refl, pos}
 use Rattle.im_num.specs.declared.kind.Kind.{Kind}
 use Rattle.im_num.specs.declared.kind.Kind.TheVariants.{Ptr}
 use Rattle.im_mem.specs.Memory.{Mem}
@@ -14,7 +14,7 @@ use Rattle.im_store.specs.Checks.{Checked, Fine, Bad}
 use Rattle.im_store.specs.Objects.{Value, Number}
 use Rattle.im_store.specs.Outcomes.{Undef, More, End}
 use Rattle.im_block.specs.declared.code.Line.{Line}
-use Rattle.im_block.specs.declared.code.Line.TheVariants.{Put, Compare}
+use Rattle.im_block.specs.declared.code.Line.TheVariants.{Compare}
 use Rattle.im_block.specs.declared.code.Exit.TheVariants.{Branch}
 use Rattle.im_block.specs.declared.unit.Unit.{Unit as Code}
 use Rattle.im_block.specs.Meaning.{Setting, State, Event, Next, Goes, Stops, on_checked, with_register, with_rest}
@@ -54,17 +54,26 @@ pub record Waiting (p : Linking) (u : Code) (g : Setting) (s : State) (c : Cpu) 
 abbrev pub bearing : State → ℕ → Value → List Line → State
 bearing s r v rest = record s { frame = record (with_rest s.frame rest) { registers = with_register s.frame.registers r v } }
 
+-- a line sets no register but this one
+abbrev pub SetsOnly : Line → ℕ → Type 0
+SetsOnly line r = (q : ℕ) → q ≢ r → writes line q ≡ false
+
 -- before that constant, where the machine is to make it with the line that uses it
 pub record Bearing (p : Linking) (u : Code) (g : Setting) (s : State) (c : Cpu) (m : Mem) : Type 0 where
   pub registers : ℕ → Value
   pub rel : Rel p u g (shaded s registers) c m
+  pub line : Line
   pub r : ℕ
-  pub z : ℤ
+  pub value : Value
+  pub n : ℕ
   pub user : Line
   pub rest : List Line
   pub next : ℕ
-  pub alike : AlikeAt rel.f.blocks.items (Put r z ∷ user ∷ rest) s.frame.spot.exit s.frame.registers registers
-  pub folded : Folded p rel.f.blocks.items c.pc (Put r z) user rest s.frame.spot.exit next
+  pub sets : SetsOnly line r
+  pub small : n < 2 ^ 32
+  pub means : Means p value n
+  pub alike : AlikeAt rel.f.blocks.items (line ∷ user ∷ rest) s.frame.spot.exit s.frame.registers registers
+  pub folded : Folded p rel.f.blocks.items c.pc r n user rest s.frame.spot.exit next
   pub code : Stands p rel.f.blocks.items s.frame.function (frame_of g s.frame.function) next rest s.frame.spot.exit
 
 -- before a zero, where the machine is to make it with a comparison and the branch
@@ -83,7 +92,7 @@ pub record Zeroing (p : Linking) (u : Code) (g : Setting) (s : State) (c : Cpu) 
   pub b : ℕ
   pub exit : s.frame.spot.exit ≡ Branch to a b
   pub zero : Means p value 0
-  pub others : (q : ℕ) → q ≢ r → writes line q ≡ false
+  pub others : SetsOnly line r
   pub left_home : IsHome left
   pub right_home : IsHome right
   pub ordered : IsPromoted kind ⊎ (kind ≡ Ptr)
@@ -96,7 +105,7 @@ pub record Zeroing (p : Linking) (u : Code) (g : Setting) (s : State) (c : Cpu) 
 pub data Stood (p : Linking) (u : Code) (g : Setting) : State → Cpu → Mem → Type 0 where
   Shaded : (s : State) (c : Cpu) (m : Mem) (registers : ℕ → Value) → Alike u s registers → Rel p u g (shaded s registers) c m → Stood p u g s c m
   Waits : (s : State) (c : Cpu) (m : Mem) (w : Waiting p u g s c m) → Stood p u g (decided s w.old w.to w.holds) c m
-  Bears : (s : State) (c : Cpu) (m : Mem) (w : Bearing p u g s c m) → Stood p u g (bearing s w.r (Number w.z) (w.user ∷ w.rest)) c m
+  Bears : (s : State) (c : Cpu) (m : Mem) (w : Bearing p u g s c m) → Stood p u g (bearing s w.r w.value (w.user ∷ w.rest)) c m
   Zeroes : (s : State) (c : Cpu) (m : Mem) (w : Zeroing p u g s c m) → Stood p u g (bearing s w.r w.value (Compare w.to w.op w.kind w.left w.right ∷ [])) c m
 
 -- what holds of each such state

@@ -84,10 +84,14 @@ below_or_not n k = grind arith
 pub signed_low : (n : ℕ) → n < 2 ^ 31 → signed n ≡ pos n
 signed_low n h = omega (arith, ints)
 
+pub signed_negative : (n : ℕ) → 2 ^ 31 ≤ n → n < 2 ^ 32 → signed n ≡ negsuc (4294967296 - suc n)
+signed_negative n h k =
+    let t : nat_lt n (2 ^ 31) ≡ false = grind (arith, nat_tests) in
+    first_of (grind (arith, ints, nat_tests), grind (arith, ints), cc, search (arith, ints, nat_tests))
+
 pub signed_high : (n : ℕ) → 2 ^ 31 ≤ n → n < 2 ^ 32 → signed n ≡ pos n -ℤ pos 4294967296
 signed_high n h k =
-    let t : nat_lt n (2 ^ 31) ≡ false = grind (arith, nat_tests) in
-    let e : signed n ≡ negsuc (4294967296 - suc n) = first_of (grind (arith, ints, nat_tests), grind (arith, ints), cc, search (arith, ints, nat_tests)) in
+    let e = signed_negative n h k in
     e ∙ (omega (arith, ints))
 
 pub wrap_signed : (z : ℤ) → wrap I32 z ≡ signed (word z)

@@ -1,11 +1,11 @@
 -- The machine's operation for each operator of C, by the kind that it works on (RISC-V Unprivileged ISA, RV32I 2.4, 2.6, M 7).
-use Rattle.std.specs.Prelude.{◌≡◌, ◌⊎◌, ℕ, if◌then◌else◌}
+use Rattle.std.specs.Prelude.{◌≡◌, ◌⊎◌, ℕ, ◌^◌, Bool, true, false, if◌then◌else◌}
 use Rattle.im_num.specs.declared.kind.Kind.{Kind}
 use Rattle.im_num.specs.declared.kind.Kind.TheVariants.{I8, U8, I16, U16, I32, U32, Ptr}
 use Rattle.im_num.specs.Kinds.{kind_size, is_signed}
 use Rattle.im_mem.specs.Memory.{Mem, little}
 use Rattle.im_rv.specs.declared.instr.Op.{Op}
-use Rattle.im_rv.specs.declared.instr.Op.TheVariants.{Lb, Lh, Lw, Lbu, Lhu, Sb, Sh, Sw, Add as AddOp, Sub, Sll, Slt, Sltu, Xor, Srl, Sra, Or, And, Mul, Div, Divu, Rem, Remu}
+use Rattle.im_rv.specs.declared.instr.Op.TheVariants.{Lb, Lh, Lw, Lbu, Lhu, Sb, Sh, Sw, Add as AddOp, Sub, Sll, Slt, Sltu, Slti, Sltiu, Xor, Srl, Sra, Or, And, Mul, Div, Divu, Rem, Remu}
 use Rattle.im_rv.specs.declared.effect.Extension.{Extension}
 use Rattle.im_rv.specs.declared.effect.Extension.TheVariants.{Sign, Zero}
 use Rattle.im_rv.specs.Steps.{extended}
@@ -31,9 +31,26 @@ operation BitXor kind = Xor
 operation ShiftLeft kind = Sll
 operation ShiftRight kind = by_sign kind Sra Srl
 
+-- whether its operands may change places
+abbrev pub commutes : BinaryOp → Bool
+commutes Add = true
+commutes Multiply = true
+commutes BitAnd = true
+commutes BitOr = true
+commutes BitXor = true
+commutes op = false
+
 -- whether one is less than another
 abbrev pub less_op : Kind → Op
 less_op kind = by_sign kind Slt Sltu
+
+-- and whether a register is less than an immediate
+abbrev pub less_by : Kind → Op
+less_by kind = by_sign kind Slti Sltiu
+
+-- the word below which no word is
+abbrev pub least : Kind → ℕ
+least kind = if is_signed kind then 2 ^ 31 else 0
 
 abbrev pub load_op : Kind → Op
 load_op I8 = Lb

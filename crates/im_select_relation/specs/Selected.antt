@@ -1,5 +1,5 @@
 -- What stands in memory for lines, exits and entries, as instructions.
-use Rattle.std.specs.Prelude.{◌≡◌, ◌≢◌, ◌<◌, ◌⊎◌, ℕ, ◌+◌, ◌-◌, ◌^◌, ◌==◌, ℤ, Bool, false, if◌then◌else◌, List, [], ◌∷◌, Option, Some, None}
+use Rattle.std.specs.Prelude.{◌≡◌, ◌≢◌, ◌<◌, ◌⊎◌, ℕ, ◌+◌, ◌-◌, ◌^◌, ◌==◌, ℤ, Bool, true, false, if◌then◌else◌, List, [], ◌∷◌, Option, Some, None}
 use Rattle.im_num.specs.declared.kind.Kind.{Kind}
 use Rattle.im_num.specs.declared.kind.Kind.TheVariants.{U8, Ptr}
 use Rattle.im_num.specs.declared.values.Cause.{Cause}
@@ -11,7 +11,7 @@ use Rattle.im_rv.specs.Steps.{sum_of}
 use Rattle.im_rv_reach.specs.Instructions.{Holds, Splits, with_immediate, on_registers, storing, branching, upper, jumping}
 use Rattle.im_store.specs.declared.operators.BinaryOp.{BinaryOp}
 use Rattle.im_store.specs.declared.operators.BinaryOp.TheVariants.{Add, Subtract, BitAnd, BitOr, BitXor, ShiftLeft, ShiftRight}
-use Rattle.im_select_relation.specs.OperatorTables.{IsPromoted, by_sign, load_op, store_op, operation, less_op}
+use Rattle.im_select_relation.specs.OperatorTables.{IsPromoted, by_sign, commutes, load_op, store_op, operation, less_op, less_by, least}
 use Rattle.im_store.specs.declared.operators.UnaryOp.TheVariants.{Negate, Complement}
 use Rattle.im_store.specs.declared.operators.Comparison.{Comparison}
 use Rattle.im_store.specs.declared.operators.Comparison.TheVariants.{Less, Greater, LessOrEqual, GreaterOrEqual, Equal, NotEqual}
@@ -186,10 +186,14 @@ ExitAt p i frame pc (Return from) = ReturnAt p frame pc from
 abbrev pub IsDead : List Block → ℕ → ℕ → Type 0
 IsDead blocks b r = (n : ℕ) → reads_first blocks n b r ≡ false
 
--- a line that puts a value whose word is 0 into register r
-pub data IsZero : Line → ℕ → Type 0 where
-  ZeroNumber : (r : ℕ) (z : ℤ) → word z ≡ 0 → IsZero (Put r z) r
-  ZeroPointer : (r : ℕ) → IsZero (PutNull r) r
+-- a line that puts a constant, whose word is n, into register r
+pub data IsConstant : Line → ℕ → ℕ → Type 0 where
+  ConstantNumber : (r n : ℕ) (z : ℤ) → word z ≡ n → IsConstant (Put r z) r n
+  ConstantNull : (r : ℕ) → IsConstant (PutNull r) r 0
+
+-- one whose word is 0
+abbrev pub IsZero : Line → ℕ → Type 0
+IsZero line r = IsConstant line r 0
 
 -- x0 for register r (RISC-V Unprivileged ISA, 2.1)
 abbrev pub or_zero : ℕ → ℕ → ℕ
@@ -201,15 +205,27 @@ pub data Joined (p : Linking) (blocks : List Block) (i pc : ℕ) : Line → List
   Decides : (to : ℕ) (op : Comparison) (kind : Kind) (left right a b : ℕ) → IsHome left → IsHome right → IsPromoted kind ⊎ (kind ≡ Ptr) → IsDead blocks a to → IsDead blocks b to → Tested p pc (comparing kind left right op) (p.place i a) (p.place i b) → Joined p blocks i pc (Compare to op kind left right) [] (Branch to a b)
   DecidesByZero : (line : Line) (r to : ℕ) (op : Comparison) (kind : Kind) (left right a b : ℕ) → IsZero line r → IsHome left → IsHome right → IsPromoted kind ⊎ (kind ≡ Ptr) → IsDead blocks a r → IsDead blocks b r → IsDead blocks a to → IsDead blocks b to → Tested p pc (comparing kind (or_zero r left) (or_zero r right) op) (p.place i a) (p.place i b) → Joined p blocks i pc line (Compare to op kind left right ∷ []) (Branch to a b)
 
--- an operator with a constant on its right, as an instruction with an immediate (RISC-V Unprivileged ISA, 2.4)
-pub data Immediate (z : ℤ) (kind : Kind) : BinaryOp → Op → ℕ → Type 0 where
-  AddsBy : Immediate z kind Add Addi (word z)
-  SubtractsBy : (imm : ℕ) → sum_of imm (word z) ≡ 0 → Immediate z kind Subtract Addi imm
-  AndsBy : Immediate z kind BitAnd Andi (word z)
-  OrsBy : Immediate z kind BitOr Ori (word z)
-  XorsBy : Immediate z kind BitXor Xori (word z)
-  ShiftsLeftBy : Immediate z kind ShiftLeft Slli (word z)
-  ShiftsRightBy : Immediate z kind ShiftRight (by_sign kind Srai Srli) (word z)
+-- an operator with a constant on its right, whose word is n, as an instruction with an immediate (RISC-V Unprivileged ISA, 2.4)
+pub data Immediate (n : ℕ) (kind : Kind) : BinaryOp → Op → ℕ → Type 0 where
+  AddsBy : Immediate n kind Add Addi n
+  SubtractsBy : (imm : ℕ) → sum_of imm n ≡ 0 → Immediate n kind Subtract Addi imm
+  AndsBy : Immediate n kind BitAnd Andi n
+  OrsBy : Immediate n kind BitOr Ori n
+  XorsBy : Immediate n kind BitXor Xori n
+  ShiftsLeftBy : Immediate n kind ShiftLeft Slli n
+  ShiftsRightBy : Immediate n kind ShiftRight (by_sign kind Srai Srli) n
+
+-- from pc to next, lines that put 1 or 0 into `to`, as a register and a word n compare, by immediates; they may use x5. A register is at
+-- most n where it is below n + 1, unless no word is below that (RISC-V Unprivileged ISA, 2.4)
+pub data ComparedBy (p : Linking) (pc to : ℕ) (kind : Kind) (left n : ℕ) : Comparison → ℕ → Type 0 where
+  LesserBy : Holds p.image pc (with_immediate (less_by kind) to left n) → ComparedBy p pc to kind left n Less (pc + 4)
+  NotLesserBy : Holds p.image pc (with_immediate (less_by kind) to left n) → Holds p.image (pc + 4) (with_immediate Xori to to 1) → ComparedBy p pc to kind left n GreaterOrEqual (pc + 4 + 4)
+  NotLargerBy : (above : ℕ) → sum_of n 1 ≡ above → above ≢ least kind → Holds p.image pc (with_immediate (less_by kind) to left above) → ComparedBy p pc to kind left n LessOrEqual (pc + 4)
+  LargerBy : (above : ℕ) → sum_of n 1 ≡ above → above ≢ least kind → Holds p.image pc (with_immediate (less_by kind) to left above) → Holds p.image (pc + 4) (with_immediate Xori to to 1) → ComparedBy p pc to kind left n Greater (pc + 4 + 4)
+  SameZero : n ≡ 0 → Holds p.image pc (with_immediate Sltiu to left 1) → ComparedBy p pc to kind left n Equal (pc + 4)
+  SameBy : (imm : ℕ) → sum_of imm n ≡ 0 → Holds p.image pc (with_immediate Addi 5 left imm) → Holds p.image (pc + 4) (with_immediate Sltiu to 5 1) → ComparedBy p pc to kind left n Equal (pc + 4 + 4)
+  OtherZero : n ≡ 0 → Holds p.image pc (on_registers Sltu to 0 left) → ComparedBy p pc to kind left n NotEqual (pc + 4)
+  OtherBy : (imm : ℕ) → sum_of imm n ≡ 0 → Holds p.image pc (with_immediate Addi 5 left imm) → Holds p.image (pc + 4) (on_registers Sltu to 0 5) → ComparedBy p pc to kind left n NotEqual (pc + 4 + 4)
 
 -- what is left doesn't read register r
 abbrev pub IsUnread : List Block → List Line → Exit → ℕ → Type 0
@@ -219,10 +235,13 @@ IsUnread blocks rest exit r = (n : ℕ) → lives_before (reads_first blocks n) 
 abbrev pub IsSpent : List Block → List Line → Exit → ℕ → ℕ → Type 0
 IsSpent blocks rest exit to r = (r ≡ to) ⊎ IsUnread blocks rest exit r
 
--- from pc to next, a constant and the line that uses it as one, where nothing else reads the constant's register
-pub data Folded (p : Linking) (blocks : List Block) (pc : ℕ) : Line → Line → List Line → Exit → ℕ → Type 0 where
-  ComputesBy : (r : ℕ) (z : ℤ) (to : ℕ) (op : BinaryOp) (kind : Kind) (left : ℕ) (rest : List Line) (exit : Exit) (by : Op) (imm : ℕ) → IsHome to → IsHome left → left ≢ r → IsPromoted kind → Immediate z kind op by imm → IsSpent blocks rest exit to r → Holds p.image pc (with_immediate by to left imm) → Folded p blocks pc (Put r z) (Compute to op kind left r) rest exit (pc + 4)
-  StoresZero : (r : ℕ) (z : ℤ) (place : Place) (kind : Kind) (access : ℕ) (rest : List Line) (exit : Exit) (base imm next : ℕ) → word z ≡ 0 → place_uses place r ≡ false → IsUnread blocks rest exit r → Based p pc place base imm next → Holds p.image next (storing (store_op kind) base 0 imm) → Folded p blocks pc (Put r z) (Write place kind r access) rest exit (next + 4)
+-- from pc to next, a line that uses a constant in register r, as an immediate or by x0, where nothing else reads that register; the
+-- constant's word is n
+pub data Folded (p : Linking) (blocks : List Block) (pc r n : ℕ) : Line → List Line → Exit → ℕ → Type 0 where
+  ComputesBy : (to : ℕ) (op : BinaryOp) (kind : Kind) (left : ℕ) (rest : List Line) (exit : Exit) (by : Op) (imm : ℕ) → IsHome to → IsHome left → left ≢ r → IsPromoted kind → Immediate n kind op by imm → IsSpent blocks rest exit to r → Holds p.image pc (with_immediate by to left imm) → Folded p blocks pc r n (Compute to op kind left r) rest exit (pc + 4)
+  ComputesFrom : (to : ℕ) (op : BinaryOp) (kind : Kind) (right : ℕ) (rest : List Line) (exit : Exit) (by : Op) (imm : ℕ) → IsHome to → IsHome right → right ≢ r → IsPromoted kind → commutes op ≡ true → Immediate n kind op by imm → IsSpent blocks rest exit to r → Holds p.image pc (with_immediate by to right imm) → Folded p blocks pc r n (Compute to op kind r right) rest exit (pc + 4)
+  ComparesBy : (to : ℕ) (op : Comparison) (kind : Kind) (left : ℕ) (rest : List Line) (exit : Exit) (next : ℕ) → IsHome to → IsHome left → left ≢ r → IsPromoted kind ⊎ (kind ≡ Ptr) → IsSpent blocks rest exit to r → ComparedBy p pc to kind left n op next → Folded p blocks pc r n (Compare to op kind left r) rest exit next
+  StoresZero : (place : Place) (kind : Kind) (access : ℕ) (rest : List Line) (exit : Exit) (base imm next : ℕ) → n ≡ 0 → place_uses place r ≡ false → IsUnread blocks rest exit r → Based p pc place base imm next → Holds p.image next (storing (store_op kind) base 0 imm) → Folded p blocks pc r n (Write place kind r access) rest exit (next + 4)
 
 abbrev mutual
   -- the lines of function i, which has these blocks and this frame, from pc on: a line for itself, or with its exit, or with the next
@@ -232,7 +251,7 @@ abbrev mutual
 
   pub Paired : Linking → List Block → ℕ → ℕ → ℕ → Line → List Line → Exit → Type 0
   Paired p blocks i frame pc line [] exit = ⊥
-  Paired p blocks i frame pc line (user ∷ rest) exit = (next : ℕ) × Folded p blocks pc line user rest exit next × Stands p blocks i frame next rest exit
+  Paired p blocks i frame pc line (user ∷ rest) exit = (r : ℕ) × (n : ℕ) × (next : ℕ) × IsConstant line r n × Folded p blocks pc r n user rest exit next × Stands p blocks i frame next rest exit
 
 -- the test of the stack, near or over a jump
 pub data Checked (p : Linking) (pc : ℕ) : ℕ → Type 0 where

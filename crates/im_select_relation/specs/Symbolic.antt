@@ -1,5 +1,5 @@
 -- What selection gives: the same lines as instructions with labels, by their numbers in the list and with no address.
-use Rattle.std.specs.Prelude.{◌≡◌, ◌≢◌, ◌<◌, ◌≤◌, ◌⊎◌, ℕ, zero, suc, ◌+◌, ◌-◌, ◌%◌, ◌^◌, ℤ, Bool, false, if◌then◌else◌, List, [], ◌∷◌, Option, Some, None, slice_get}
+use Rattle.std.specs.Prelude.{◌≡◌, ◌≢◌, ◌<◌, ◌≤◌, ◌⊎◌, ℕ, zero, suc, ◌+◌, ◌-◌, ◌%◌, ◌^◌, ℤ, Bool, true, false, if◌then◌else◌, List, [], ◌∷◌, Option, Some, None, slice_get}
 use Rattle.im_num.specs.declared.kind.Kind.{Kind}
 use Rattle.im_num.specs.declared.kind.Kind.TheVariants.{U8, Ptr}
 use Rattle.im_num.specs.declared.values.Cause.{Cause}
@@ -7,10 +7,11 @@ use Rattle.im_num.specs.Kinds.{bits, word}
 use Rattle.im_mem.specs.Map.{stack_lim_at}
 use Rattle.im_rv.specs.declared.instr.Op.{Op}
 use Rattle.im_rv.specs.declared.instr.Op.TheVariants.{Jalr, Bltu, Bgeu, Lw, Sw, Addi, Sltiu, Xori, Andi, Slli, Srli, Srai, Add as AddOp, Sub, Sltu, Mul, Div}
+use Rattle.im_rv.specs.Steps.{sum_of}
 use Rattle.im_rv.specs.Decode.{Line as Instruction}
 use Rattle.im_rv.specs.Lines.{CodeLine}
 use Rattle.im_rv_reach.specs.Instructions.{Holds, Splits, with_immediate, on_registers, storing, branching, upper, jumping}
-use Rattle.im_select_relation.specs.OperatorTables.{IsPromoted, by_sign, load_op, store_op, operation, less_op}
+use Rattle.im_select_relation.specs.OperatorTables.{IsPromoted, by_sign, commutes, load_op, store_op, operation, less_op, less_by, least}
 use Rattle.im_store.specs.declared.operators.BinaryOp.{BinaryOp}
 use Rattle.im_store.specs.declared.operators.UnaryOp.TheVariants.{Negate, Complement}
 use Rattle.im_store.specs.declared.operators.Comparison.{Comparison}
@@ -33,7 +34,7 @@ use Rattle.im_frame.specs.declared.layout.Layout.{Layout}
 use Rattle.im_frame.specs.Layout.{place_of as place_in, IsLayout}
 use Rattle.im_select_relation.specs.Linking.{Linking, LaidOut, frame_of}
 use Rattle.im_select_relation.specs.Linked.{FunctionAt}
-use Rattle.im_select_relation.specs.Selected.{IsHome, IsEntry, argument_register, ones, unused_bits, Test, nonzero, comparing, IsDead, IsZero, or_zero, Immediate, IsUnread, IsSpent}
+use Rattle.im_select_relation.specs.Selected.{IsHome, IsEntry, argument_register, ones, unused_bits, Test, nonzero, comparing, IsDead, IsZero, or_zero, IsConstant, Immediate, IsUnread, IsSpent}
 
 -- the lines of a function; the places of objects in frames and of statics; the labels of the function's blocks, of the
 -- functions' entries, of the lines for an exhausted stack, of a checkpoint by its last register, of each service
@@ -171,10 +172,24 @@ pub data JoinedIn (w : Lines) (blocks : List Block) (starts : ℕ → ℕ) (k : 
   Decides : (to : ℕ) (op : Comparison) (kind : Kind) (left right a b : ℕ) → IsHome left → IsHome right → IsPromoted kind ⊎ (kind ≡ Ptr) → IsDead blocks a to → IsDead blocks b to → TestedIn w starts k (comparing kind left right op) a b → JoinedIn w blocks starts k (Compare to op kind left right) [] (Branch to a b)
   DecidesByZero : (line : Line) (r to : ℕ) (op : Comparison) (kind : Kind) (left right a b : ℕ) → IsZero line r → IsHome left → IsHome right → IsPromoted kind ⊎ (kind ≡ Ptr) → IsDead blocks a r → IsDead blocks b r → IsDead blocks a to → IsDead blocks b to → TestedIn w starts k (comparing kind (or_zero r left) (or_zero r right) op) a b → JoinedIn w blocks starts k line (Compare to op kind left right ∷ []) (Branch to a b)
 
--- from k to next, a constant and the line that uses it as one, where nothing else reads the constant's register
-pub data FoldedIn (w : Lines) (blocks : List Block) (k : ℕ) : Line → Line → List Line → Exit → ℕ → Type 0 where
-  ComputesBy : (r : ℕ) (z : ℤ) (to : ℕ) (op : BinaryOp) (kind : Kind) (left : ℕ) (rest : List Line) (exit : Exit) (by : Op) (imm : ℕ) → IsHome to → IsHome left → left ≢ r → IsPromoted kind → Immediate z kind op by imm → IsSpent blocks rest exit to r → Plain w k (with_immediate by to left imm) → FoldedIn w blocks k (Put r z) (Compute to op kind left r) rest exit (suc k)
-  StoresZero : (r : ℕ) (z : ℤ) (place : Place) (kind : Kind) (access : ℕ) (rest : List Line) (exit : Exit) (base imm next : ℕ) → word z ≡ 0 → place_uses place r ≡ false → IsUnread blocks rest exit r → BasedIn w k place base imm next → Accessing w next (storing (store_op kind) base 0 imm) access → FoldedIn w blocks k (Put r z) (Write place kind r access) rest exit (suc next)
+-- from k to next, lines that put 1 or 0 into `to`, as a register and a word n compare, by immediates; they may use x5
+pub data ComparedByIn (w : Lines) (k to : ℕ) (kind : Kind) (left n : ℕ) : Comparison → ℕ → Type 0 where
+  LesserBy : Plain w k (with_immediate (less_by kind) to left n) → ComparedByIn w k to kind left n Less (suc k)
+  NotLesserBy : Plain w k (with_immediate (less_by kind) to left n) → Plain w (suc k) (with_immediate Xori to to 1) → ComparedByIn w k to kind left n GreaterOrEqual (suc (suc k))
+  NotLargerBy : (above : ℕ) → sum_of n 1 ≡ above → above ≢ least kind → Plain w k (with_immediate (less_by kind) to left above) → ComparedByIn w k to kind left n LessOrEqual (suc k)
+  LargerBy : (above : ℕ) → sum_of n 1 ≡ above → above ≢ least kind → Plain w k (with_immediate (less_by kind) to left above) → Plain w (suc k) (with_immediate Xori to to 1) → ComparedByIn w k to kind left n Greater (suc (suc k))
+  SameZero : n ≡ 0 → Plain w k (with_immediate Sltiu to left 1) → ComparedByIn w k to kind left n Equal (suc k)
+  SameBy : (imm : ℕ) → sum_of imm n ≡ 0 → Plain w k (with_immediate Addi 5 left imm) → Plain w (suc k) (with_immediate Sltiu to 5 1) → ComparedByIn w k to kind left n Equal (suc (suc k))
+  OtherZero : n ≡ 0 → Plain w k (on_registers Sltu to 0 left) → ComparedByIn w k to kind left n NotEqual (suc k)
+  OtherBy : (imm : ℕ) → sum_of imm n ≡ 0 → Plain w k (with_immediate Addi 5 left imm) → Plain w (suc k) (on_registers Sltu to 0 5) → ComparedByIn w k to kind left n NotEqual (suc (suc k))
+
+-- from k to next, a line that uses a constant in register r, as an immediate or by x0, where nothing else reads that register; the
+-- constant's word is n
+pub data FoldedIn (w : Lines) (blocks : List Block) (k r n : ℕ) : Line → List Line → Exit → ℕ → Type 0 where
+  ComputesBy : (to : ℕ) (op : BinaryOp) (kind : Kind) (left : ℕ) (rest : List Line) (exit : Exit) (by : Op) (imm : ℕ) → IsHome to → IsHome left → left ≢ r → IsPromoted kind → Immediate n kind op by imm → IsSpent blocks rest exit to r → Plain w k (with_immediate by to left imm) → FoldedIn w blocks k r n (Compute to op kind left r) rest exit (suc k)
+  ComputesFrom : (to : ℕ) (op : BinaryOp) (kind : Kind) (right : ℕ) (rest : List Line) (exit : Exit) (by : Op) (imm : ℕ) → IsHome to → IsHome right → right ≢ r → IsPromoted kind → commutes op ≡ true → Immediate n kind op by imm → IsSpent blocks rest exit to r → Plain w k (with_immediate by to right imm) → FoldedIn w blocks k r n (Compute to op kind r right) rest exit (suc k)
+  ComparesBy : (to : ℕ) (op : Comparison) (kind : Kind) (left : ℕ) (rest : List Line) (exit : Exit) (next : ℕ) → IsHome to → IsHome left → left ≢ r → IsPromoted kind ⊎ (kind ≡ Ptr) → IsSpent blocks rest exit to r → ComparedByIn w k to kind left n op next → FoldedIn w blocks k r n (Compare to op kind left r) rest exit next
+  StoresZero : (place : Place) (kind : Kind) (access : ℕ) (rest : List Line) (exit : Exit) (base imm next : ℕ) → n ≡ 0 → place_uses place r ≡ false → IsUnread blocks rest exit r → BasedIn w k place base imm next → Accessing w next (storing (store_op kind) base 0 imm) access → FoldedIn w blocks k r n (Write place kind r access) rest exit (suc next)
 
 abbrev mutual
   -- the lines of a function that has these blocks and this frame, from k on
@@ -184,7 +199,7 @@ abbrev mutual
 
   pub PairedIn : Lines → List Block → (ℕ → ℕ) → ℕ → ℕ → Line → List Line → Exit → Type 0
   PairedIn w blocks starts frame k line [] exit = ⊥
-  PairedIn w blocks starts frame k line (user ∷ rest) exit = (next : ℕ) × FoldedIn w blocks k line user rest exit next × StandsIn w blocks starts frame next rest exit
+  PairedIn w blocks starts frame k line (user ∷ rest) exit = (r : ℕ) × (n : ℕ) × (next : ℕ) × IsConstant line r n × FoldedIn w blocks k r n user rest exit next × StandsIn w blocks starts frame next rest exit
 
 -- the test of the stack, near or over a jump
 pub data CheckedIn (w : Lines) (k : ℕ) : ℕ → Type 0 where

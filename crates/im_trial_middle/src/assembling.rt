@@ -108,8 +108,8 @@ fn chain(alloc: Global) -> Result<Unit, Fault>
     })
 }
 
-// The number of the words, those behind the runtime, and the entry.
-fn tell_code(code: &Code, case: &mut Case) {
+/// The number of the words, those behind the runtime, and the entry.
+pub(crate) fn tell_code(code: &Code, case: &mut Case) {
     case.show(code.words.len());
     for word in code.words.iter().skip(276) {
         case.word(*word);
@@ -118,7 +118,8 @@ fn tell_code(code: &Code, case: &mut Case) {
     case.word(code.entry);
 }
 
-fn linked(alloc: Global, unit: Unit) -> Result<Code, Fault>
+/// One function that is laid out, selected and linked.
+pub(crate) fn linked(alloc: Global, unit: Unit) -> Result<Code, Fault>
     requires well_formed { IsWellFormed unit }
     requires placed { IsPlacedCode unit }
     requires named { NamesAccesses unit }

@@ -4,6 +4,7 @@ use Rattle.im_block.specs.declared.code.Line.{Line}
 use Rattle.im_block.specs.declared.code.Line.TheVariants.{Put}
 use Rattle.im_alloc_placed.specs.Placed.{IsPlacedLine}
 use Rattle.im_live.specs.Words.{IsMachineLine, entry_at}
+use Rattle.im_select.specs.declared.folding.Constant.{Constant}
 use Rattle.im_select.specs.Emitted.{way_code, lines_code, behind_at}
 use Rattle.im_select.specs.Given.{given}
 use Rattle.im_select.specs.Places.{at_of}
@@ -22,8 +23,8 @@ loop-number-preserved c =
     let points : List ℕ = c.args.points.now in
     let placed : List Line = c.args.placed.now in
     let k : ℕ = c.loop-number.number in
-    let before : Option ℕ = c.loop-number.before in
-    let passed : Option ℕ = c.passed_by-passed.result in
+    let before : Option Constant = c.loop-number.before in
+    let passed : Option Constant = c.passed_by-passed.result in
     let now : List CodeLine = code_lines c.loop-number.lines.items in
     lines_grown at (entry_at points) (behind_at points) before passed (code_lines c.args.lines.now.items ++ lines_code at (entry_at points) (behind_at points) None 0 placed) now (code_lines c.push_way.new.lines.items) placed k (Put 0 (pos 0)) c.loop-number-test.true c.loop-number.invariant c.passed_by-passed.ensures
     (c.in_ok-push_way.ensures ∙ ap (λ z. now ++ way_code at z passed before (get_or placed k (Put 0 (pos 0)))) c.entry_for-entry.ensures)
