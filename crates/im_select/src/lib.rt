@@ -13,8 +13,6 @@ mod names;
 mod order;
 mod push;
 mod selection;
-#[cfg(test)]
-mod tests;
 mod words;
 
 pub use branching::Test;

@@ -1,4 +1,4 @@
-use crate::{assembling, forcing, frames, losses, recutting, statics};
+use crate::{assembling, forcing, frames, losses, placing, recutting, selecting, statics};
 use im_trial::{Case, Kinds, Row, Stop, Texts};
 
 /// Cases of what each pass makes of code.
@@ -13,6 +13,8 @@ impl Kinds for Middle {
             "statics" => statics::statics_lie_apart(case),
             "assemble" => assembling::a_program_is_linked(case),
             "chain" => assembling::a_chain_takes_no_word(case),
+            "place" => placing::a_unit_is_placed(case),
+            "select" => selecting::select_code(row, case),
             "losses" => losses::power_fails(case),
             _ => case.end(Stop::Row),
         }
