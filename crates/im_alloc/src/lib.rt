@@ -8,7 +8,5 @@ mod numbers;
 mod operands;
 mod pieces;
 mod placing;
-#[cfg(test)]
-mod tests;
 
 pub use placing::place;

@@ -14,8 +14,6 @@ mod names;
 mod order;
 mod push;
 mod selection;
-#[cfg(test)]
-mod tests;
 mod words;
 
 pub use branching::Test;

@@ -1,5 +1,5 @@
-ghost use Rattle.std.specs.Prelude.{◌≡◌, true, false, OnOk};
-ghost use Rattle.im_trial.specs.Judging.{AreCounted, IsCounted, cases_in};
+ghost use Rattle.std.specs.Prelude.{◌≡◌, true, false, length, IfOk, OnOk};
+ghost use Rattle.im_trial.specs.Judging.{AreCounted, AreTablesCounted, IsCounted, IsTableCounted, cases_in, no_case};
 ghost use Rattle.im_trial.specs.Texts.{has_text};
 
 use crate::case::Case;
@@ -52,23 +52,35 @@ fn run_rows<K: Kinds>(
     Ok(())
 }
 
+// Runs the rows of a table.
 fn run_table<K: Kinds>(
     rt: &HostRuntime,
     kinds: &K,
     texts: &mut Texts,
     tally: &mut Tally,
     name: &str,
-) -> Result<(), Stop> {
+) -> Result<(), Stop>
+    ensures { OnOk result (IsTableCounted tally.old tally.new) }
+{
     let table = fs::read_to_string(rt, name)?;
-    run_rows(rt, kinds, texts, tally, &rows_of(rt.alloc(), &table)?)
+    let rows = rows_of(rt.alloc(), &table)?;
+    run_rows(rt, kinds, texts, tally, &rows)
 }
 
-/// Runs the cases of tables, files of these names, in turn: prints what each found, and the counts.
-pub fn run_tables<K: Kinds>(rt: &HostRuntime, kinds: &K, names: &[&str]) -> Result<(), Stop> {
+// Runs the rows of each table, in turn, and gives the counts.
+fn run_each<K: Kinds>(rt: &HostRuntime, kinds: &K, names: &[&str]) -> Result<Tally, Stop>
+    ensures { IfOk result (AreTablesCounted (length names.now) no_case) }
+{
     let mut texts = Texts::new(rt.alloc());
     let mut tally = Tally::new();
     for name in names {
         run_table(rt, kinds, &mut texts, &mut tally, name)?;
     }
+    Ok(tally)
+}
+
+/// Runs the cases of tables, files of these names, in turn: prints what each found, and the counts.
+pub fn run_tables<K: Kinds>(rt: &HostRuntime, kinds: &K, names: &[&str]) -> Result<(), Stop> {
+    let tally = run_each(rt, kinds, names)?;
     tally.finish(rt)
 }

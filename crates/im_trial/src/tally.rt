@@ -1,5 +1,5 @@
 ghost use Rattle.std.specs.Prelude.{◌≡◌, IfOk, string_bytes};
-ghost use Rattle.im_trial.specs.Judging.{counted, passes, told_of};
+ghost use Rattle.im_trial.specs.Judging.{counted, counts_of, no_case, passes, told_of};
 
 use crate::case::Case;
 use crate::row::Row;
@@ -26,10 +26,18 @@ fn told(alloc: Global, row: &Row<'_>, case: &Case) -> Result<String, AllocError>
     }
 }
 
+// The line that tells how many cases passed, and how many failed.
+fn counts_text(alloc: Global, tally: Tally) -> Result<String, AllocError>
+    ensures { IfOk result (λ text. string_bytes text ≡ counts_of tally) }
+{
+    let (passed, failed) = (tally.passed, tally.failed);
+    format!(in alloc; "{passed} passed, {failed} failed")
+}
+
 impl Tally {
     /// Of no case.
     pub fn new() -> Tally
-        ensures { result ≡ record { passed = 0; failed = 0 } }
+        ensures { result ≡ no_case }
     {
         Tally {
             passed: 0,
@@ -59,8 +67,8 @@ impl Tally {
 
     /// Prints the counts.
     pub fn finish(&self, rt: &HostRuntime) -> Result<(), Stop> {
-        let (passed, failed) = (self.passed, self.failed);
-        println!(rt; "{passed} passed, {failed} failed")?;
+        let text = counts_text(rt.alloc(), *self)?;
+        println!(rt; "{text}")?;
         Ok(())
     }
 }

@@ -1,3 +1,4 @@
 pub mod Two
 pub mod Laid
 pub mod Single
+pub mod Selectable

@@ -1,1 +1,2 @@
 pub mod Buildable
+pub mod Shell

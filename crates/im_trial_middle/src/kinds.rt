@@ -1,4 +1,4 @@
-use crate::{assembling, folding, forcing, frames, losses, recutting, statics};
+use crate::{assembling, folding, forcing, frames, losses, placing, recutting, selecting, statics};
 use im_trial::{Case, Kinds, Row, Stop, Texts};
 
 /// Cases of what each pass makes of code.
@@ -16,6 +16,8 @@ impl Kinds for Middle {
             "compare" => folding::comparisons_take_constants(case),
             "over" => folding::others_have_lines(case),
             "chain" => assembling::a_chain_takes_no_word(case),
+            "place" => placing::a_unit_is_placed(case),
+            "select" => selecting::select_code(row, case),
             "losses" => losses::power_fails(case),
             _ => case.end(Stop::Row),
         }

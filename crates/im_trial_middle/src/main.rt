@@ -11,14 +11,19 @@ mod forcing;
 mod frames;
 mod kinds;
 mod losses;
+mod placed;
+mod placing;
 mod recutting;
+mod selecting;
+mod spelling;
 mod statics;
+mod words;
 
 use im_trial::{Stop, run_tables};
 use kinds::Middle;
 
 /// The tables, in the order in which they are run.
-const TABLES: [&str; 1] = ["passes"];
+const TABLES: [&str; 2] = ["passes", "selected"];
 
 fn main(rt: HostRuntime) -> Result<(), Stop> {
     run_tables(&rt, &Middle, &TABLES)
