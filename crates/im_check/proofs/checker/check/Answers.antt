@@ -6,7 +6,7 @@ use Rattle.im_check.proofs.checker.check.Goals as goal
 
 pub returns-in_err-typed : goal.returns-in_err-typed
 returns-in_err-typed c =
-    let p = err_from_is_err_and c.from_residual.result c.from_residual.ensures.1 in
+    let p = err_from_is_err_and c.from_residual-in_err-typed.result c.from_residual-in_err-typed.ensures.1 in
     rw (p.1, p.2) c.in_err-typed.ensures
 
 pub returns : goal.returns
