@@ -100,12 +100,7 @@ pub(crate) fn constant_comparison(
 }
 
 /// What is behind the first instruction of a comparison with a word.
-fn push_weighed(
-    lines: &mut Vec<Line>,
-    to: u32,
-    op: Comparison,
-    word: u32,
-) -> Result<(), NoMemory>
+fn push_weighed(lines: &mut Vec<Line>, to: u32, op: Comparison, word: u32) -> Result<(), NoMemory>
     requires { to < 32 }
     ensures { OnOk result (code_lines lines.new.items
         ≡ code_lines lines.old.items ++ weighed_code to op word) }

@@ -1,5 +1,5 @@
 -- Comparisons of promoted values and of words, and the machine's lines for them.
-use Rattle.std.proofs.Common.{◌≡◌, ◌≢◌, ℕ, zero, suc, ◌+◌, ◌-◌, ◌^◌, ◌<◌, ◌≤◌, inl, inr, ℤ, pos, negsuc, Bool, true, false, cond, sym, ap, ◌∙◌, refl, arith}
+use Rattle.std.proofs.Common.{◌≡◌, ◌≢◌, ℕ, zero, suc, ◌+◌, ◌-◌, ◌^◌, ◌<◌, inl, inr, ℤ, pos, negsuc, Bool, true, false, cond, sym, ap, ◌∙◌, refl, arith}
 use Rattle.std.specs.Prelude.{nat_le, nat_lt, int_lt, int_le, not, ◌==◌, bit_xor}
 use Rattle.std.specs.Int.{cast_unsigned, w32}
 use Rattle.std.specs.Ordering.{int_eq}

@@ -1,4 +1,4 @@
-ghost use Rattle.std.specs.Prelude.{◌≡◌, ◌≤◌, [], length, pos, None, IfOk, All};
+ghost use Rattle.std.specs.Prelude.{◌≡◌, ◌≤◌, [], length, IfOk, All};
 ghost use Rattle.im_block.specs.Wellformed.{IsWellFormed};
 ghost use Rattle.im_block.specs.declared.code.Line.TheVariants.{Put, Compute, Compare};
 ghost use Rattle.im_block.specs.declared.unit.Function.{Function as Placed};
