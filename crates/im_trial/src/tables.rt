@@ -64,7 +64,8 @@ fn run_table<K: Kinds>(
 {
     let table = fs::read_to_string(rt, name)?;
     let rows = rows_of(rt.alloc(), &table)?;
-    run_rows(rt, kinds, texts, tally, &rows)
+    run_rows(rt, kinds, texts, tally, &rows)?;
+    Ok(())
 }
 
 // Runs the rows of each table, in turn, and gives the counts.

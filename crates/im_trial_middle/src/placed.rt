@@ -1,4 +1,5 @@
-ghost use Rattle.std.specs.Prelude.{◌≡◌, true, length, All};
+ghost use Rattle.std.specs.Prelude.{◌≡◌, ◌≢◌, ◌⊎◌, ◌<◌, ◌≤◌, true, length, All};
+ghost use Rattle.im_num.specs.declared.kind.Kind.TheVariants.{Ptr};
 ghost use Rattle.im_alloc_placed.specs.Operands.{HasObject, IsHome, IsPromoted, PlaceAtHome, PlaceExists};
 ghost use Rattle.im_alloc_placed.specs.Placed.{IsPlacedBlock, IsPlacedExit, IsPlacedLine};
 ghost use Rattle.im_block.specs.Wellformed.{ExitThere};
@@ -13,8 +14,11 @@ use im_select::Names;
 /// The greatest offset of a place in its object, in bytes.
 const GREATEST_OFFSET: u32 = 0x20_0000;
 
+/// Sizes of elements, in bytes, are less.
+const SIZES: u32 = 0x8000_0000;
+
 /// The register of a function's first argument and of its result.
-const FIRST_ARGUMENT: u32 = 10;
+const FIRST: u32 = 10;
 
 fn is_home(register: u32) -> bool
     ensures { result ≡ true → IsHome register }
@@ -26,8 +30,35 @@ fn is_promoted(kind: Kind) -> bool
     ensures { result ≡ true → IsPromoted kind }
 {
     match kind {
-        Kind::I32 | Kind::U32 => true,
+        Kind::I32 => true,
+        Kind::U32 => true,
         Kind::I8 | Kind::U8 | Kind::I16 | Kind::U16 | Kind::Ptr => false,
+    }
+}
+
+/// Whether values of a kind are compared: promoted ones and pointers.
+fn is_compared(kind: Kind) -> bool
+    ensures { result ≡ true → IsPromoted kind ⊎ (kind ≡ Ptr) }
+{
+    match kind {
+        Kind::I32 => true,
+        Kind::U32 => true,
+        Kind::Ptr => true,
+        Kind::I8 | Kind::U8 | Kind::I16 | Kind::U16 => false,
+    }
+}
+
+fn is_integer(kind: Kind) -> bool
+    ensures { result ≡ true → kind ≢ Ptr }
+{
+    match kind {
+        Kind::I8 => true,
+        Kind::U8 => true,
+        Kind::I16 => true,
+        Kind::U16 => true,
+        Kind::I32 => true,
+        Kind::U32 => true,
+        Kind::Ptr => false,
     }
 }
 
@@ -53,31 +84,92 @@ fn is_place(names: &Names, place: Place) -> bool
 }
 
 fn are_homes(first: u32, second: u32) -> bool
-    ensures first { result ≡ true → IsHome first }
-    ensures second { result ≡ true → IsHome second }
+    ensures { result ≡ true → IsHome first × IsHome second }
 {
     is_home(first) && is_home(second)
 }
 
 fn are_three_homes(first: u32, second: u32, third: u32) -> bool
-    ensures first { result ≡ true → IsHome first }
-    ensures second { result ≡ true → IsHome second }
-    ensures third { result ≡ true → IsHome third }
+    ensures { result ≡ true → IsHome first × IsHome second × IsHome third }
 {
     is_home(first) && is_home(second) && is_home(third)
 }
 
-/// Whether a line is one of placed code; no call of a service is.
-fn is_placed(names: &Names, line: Line) -> bool
-    ensures { result ≡ true
+fn is_converted(to: u32, kind: Kind, from: u32) -> bool
+    ensures homes { result ≡ true → IsHome to × IsHome from }
+    ensures kind { result ≡ true → kind ≢ Ptr }
+{
+    are_homes(to, from) && is_integer(kind)
+}
+
+fn is_unary(to: u32, kind: Kind, from: u32) -> bool
+    ensures homes { result ≡ true → IsHome to × IsHome from }
+    ensures kind { result ≡ true → IsPromoted kind }
+{
+    are_homes(to, from) && is_promoted(kind)
+}
+
+fn is_computed(to: u32, kind: Kind, left: u32, right: u32) -> bool
+    ensures homes { result ≡ true → IsHome to × IsHome left × IsHome right }
+    ensures kind { result ≡ true → IsPromoted kind }
+{
+    are_three_homes(to, left, right) && is_promoted(kind)
+}
+
+fn is_comparison(to: u32, kind: Kind, left: u32, right: u32) -> bool
+    ensures homes { result ≡ true → IsHome to × IsHome left × IsHome right }
+    ensures kind { result ≡ true → IsPromoted kind ⊎ (kind ≡ Ptr) }
+{
+    are_three_homes(to, left, right) && is_compared(kind)
+}
+
+/// A move by elements of so many bytes, or a distance in them.
+fn is_sized(size: u32, to: u32, left: u32, right: u32) -> bool
+    ensures homes { result ≡ true → IsHome to × IsHome left × IsHome right }
+    ensures some { result ≡ true → 0 < size }
+    ensures small { result ≡ true → size < 2147483648 }
+{
+    are_three_homes(to, left, right) && 0 < size && size < SIZES
+}
+
+fn is_access(names: &Names, register: u32, place: Place) -> bool
+    ensures home { result ≡ true → IsHome register }
+    ensures place { result ≡ true → PlaceAtHome place }
+    ensures there { result ≡ true
+        → PlaceExists (length names.now.statics.now) names.now.function.now place }
+{
+    is_home(register) && is_place(names, place)
+}
+
+fn is_slotted(names: &Names, register: u32, slot: u32) -> bool
+    ensures home { result ≡ true → IsHome register }
+    ensures slot { result ≡ true → slot < names.now.function.now.slots }
+{
+    is_home(register) && slot < names.function.slots
+}
+
+fn is_call(names: &Names, to: u32, function: u32, first: u32, count: u32) -> bool
+    ensures to { result ≡ true → to ≡ 10 }
+    ensures first { result ≡ true → first ≡ 10 }
+    ensures count { result ≡ true → count ≤ 8 }
+    ensures called { result ≡ true → function < names.now.functions }
+{
+    to == FIRST && first == FIRST && count <= 8 && function < names.functions
+}
+
+/// Whether a line is one of placed code, and the function that it calls is there; no call of a
+/// service is.
+fn is_line(names: &Names, line: Line) -> bool
+    ensures placed { result ≡ true
         → IsPlacedLine (length names.now.statics.now) names.now.function.now line }
+    ensures calls { result ≡ true → CallsBelow names.now.functions line }
 {
     match line {
         Line::Put { to, .. } => is_home(to),
         Line::PutNull { to } => is_home(to),
         Line::Copy { to, from } => are_homes(to, from),
-        Line::Convert { to, kind, from } => are_homes(to, from) && kind != Kind::Ptr,
-        Line::Unary { to, kind, from, .. } => are_homes(to, from) && is_promoted(kind),
+        Line::Convert { to, kind, from } => is_converted(to, kind, from),
+        Line::Unary { to, kind, from, .. } => is_unary(to, kind, from),
         Line::Not { to, from } => are_homes(to, from),
         Line::Compute {
             to,
@@ -85,58 +177,41 @@ fn is_placed(names: &Names, line: Line) -> bool
             left,
             right,
             ..
-        } => are_three_homes(to, left, right) && is_promoted(kind),
+        } => is_computed(to, kind, left, right),
         Line::Compare {
             to,
             kind,
             left,
             right,
             ..
-        } => are_three_homes(to, left, right) && (is_promoted(kind) || kind == Kind::Ptr),
+        } => is_comparison(to, kind, left, right),
         Line::Move {
             to,
+            size,
             pointer,
             by,
             ..
-        } => are_three_homes(to, pointer, by),
+        } => is_sized(size, to, pointer, by),
         Line::Distance {
             to,
             size,
             left,
             right,
-        } => are_three_homes(to, left, right) && 0 < size && size < 0x8000_0000,
-        Line::Address { to, place } => is_home(to) && is_place(names, place),
-        Line::Read { to, place, .. } => is_home(to) && is_place(names, place),
-        Line::Write { place, from, .. } => is_home(from) && is_place(names, place),
-        Line::Reload { to, slot, .. } => is_home(to) && slot < names.function.slots,
-        Line::Spill { slot, from, .. } => is_home(from) && slot < names.function.slots,
+        } => is_sized(size, to, left, right),
+        Line::Address { to, place } => is_access(names, to, place),
+        Line::Read { to, place, .. } => is_access(names, to, place),
+        Line::Write { place, from, .. } => is_access(names, from, place),
+        Line::Reload { to, slot, .. } => is_slotted(names, to, slot),
+        Line::Spill { slot, from, .. } => is_slotted(names, from, slot),
         Line::Cut(_) => true,
         Line::Call {
             to,
+            function,
             first,
             count,
-            ..
-        } => to == FIRST_ARGUMENT && first == FIRST_ARGUMENT && count <= 8,
+        } => is_call(names, to, function, first, count),
         Line::Serve { .. } => false,
     }
-}
-
-/// Whether the function that a line calls is there.
-fn calls_there(names: &Names, line: Line) -> bool
-    ensures { result ≡ true → CallsBelow names.now.functions line }
-{
-    match line {
-        Line::Call { function, .. } => function < names.functions,
-        _ => true,
-    }
-}
-
-fn is_line(names: &Names, line: Line) -> bool
-    ensures placed { result ≡ true
-        → IsPlacedLine (length names.now.statics.now) names.now.function.now line }
-    ensures calls { result ≡ true → CallsBelow names.now.functions line }
-{
-    is_placed(names, line) && calls_there(names, line)
 }
 
 fn are_lines(names: &Names, lines: &[Line]) -> bool
@@ -165,7 +240,7 @@ fn is_exit(names: &Names, exit: Exit) -> bool
             is_home(on) && (holds as usize) < count && (fails as usize) < count
         }
         Exit::Return(None) => true,
-        Exit::Return(Some(from)) => from == FIRST_ARGUMENT,
+        Exit::Return(Some(from)) => from == FIRST,
     }
 }
 
