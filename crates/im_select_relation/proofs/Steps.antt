@@ -475,8 +475,8 @@ user_brings p u g l s c m registers r line q value n user rest next sets small m
     let old : ℕ → Value = was.frame.registers in
     let by : Active = s.frame.active in
     let still : (i : ℕ) → place_uses place i ≡ true → registers i ≡ old i = (λ i e.
-        (let other : i ≢ q = (λ same. (let bad : true ≡ false = sym e ∙ ap (place_uses place) same ∙ apart in cc)) in
-        operand_still blocks s.frame.spot.exit s.frame.registers registers line q value sets user rest alike i other (ap (λ t. t || i == q) e))) in
+    (let other : i ≢ q = (λ same. (let bad : true ≡ false = sym e ∙ ap (place_uses place) same ∙ apart in cc)) in
+    operand_still blocks s.frame.spot.exit s.frame.registers registers line q value sets user rest alike i other (ap (λ t. t || i == q) e))) in
     let same : write_place place kind value by registers s.store ≡ write_place place kind (old q) by old s.store =
     write_same place kind value by old registers s.store still ∙ ap (λ v. write_place place kind v by old s.store) (sym (register_same s.frame.registers q value)) in
     both_brings p u g s.fuel 3 c m (writes (site_of access kind) (write_place place kind (old q) by old s.store) rest was) (writes (site_of access kind) (write_place place kind value by registers s.store) rest (shaded s registers))
