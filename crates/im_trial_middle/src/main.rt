@@ -1,4 +1,4 @@
-//! Block code and placed code made by hand, by a table: what each pass makes of it, and its runs
+//! Block code and placed code made by hand, by tables: what each pass makes of it, and its runs
 //! under losses of power.
 #![tactic(auto)]
 
