@@ -123,7 +123,7 @@ stands_same w blocks s t count room k [] exit same h a = exit_same w s t count r
 stands_same w blocks s t count room k (line ∷ lines) exit same h (inl a) = inl (a.0, a.1, stands_same w blocks s t count room a.0 lines exit same h a.2)
 stands_same w blocks s t count room k (line ∷ lines) exit same h (inr (inl a)) = inr (inl (joined_same w blocks s t count k line lines exit same h a))
 stands_same w blocks s t count room k (line ∷ []) exit same h (inr (inr a)) = absurd a
-stands_same w blocks s t count room k (line ∷ user ∷ lines) exit same h (inr (inr a)) = inr (inr (a.0, a.1, stands_same w blocks s t count room a.0 lines exit same h a.2))
+stands_same w blocks s t count room k (line ∷ user ∷ lines) exit same h (inr (inr a)) = inr (inr (a.0, a.1, a.2, a.3, a.4, stands_same w blocks s t count room a.2 lines exit same h a.5))
 
 prologue_same : (w : Lines) (s t : ℕ → ℕ) (count k room b : ℕ) → ((b : ℕ) → b < count → s b ≡ t b) → b < count → PrologueIn w s k room b → PrologueIn w t k room b
 prologue_same w s t count k room b same h p = record { a = p.a; b = p.b; lowered = p.lowered; bound = p.bound; checked = p.checked; taken = p.taken; saved = p.saved; continues = continues_same w s t count (suc (suc p.b)) b same h p.continues }
