@@ -140,7 +140,7 @@ taker_some : (at : Name → ℕ) (m : ℕ) (lives : ℕ → Bool) (c : Constant)
 taker_some at m lives c user (OnRight to op kind left l ne spent e) = let q = ap length (right_code to op kind left c l ne e) in omega arith
 taker_some at m lives c user (OnLeft to op kind right l ne spent turns e) = let q = ap length (left_code to op kind right c l ne turns e) in omega arith
 taker_some at m lives c user (Weighs to op kind left l ne spent e) = let q = ap length (weighs_code to op kind left c l ne e) in omega arith
-taker_some at m lives c user (Stores place kind access zero apart unread) = let q = line_some at m (Write place kind 0 access) in omega arith
+taker_some at m lives c user (Stores place kind access is_zero apart unread) = let q = line_some at m (Write place kind 0 access) in omega arith
 
 constant_halves : (line : Line) (r n : ℕ) → IsConstant line r n → line_halves line ≤ 1
 constant_halves line r n (ConstantNumber q k z e) = omega arith
