@@ -159,12 +159,12 @@ fn is_call(names: &Names, to: u32, function: u32, first: u32, count: u32) -> boo
 
 /// Whether a line is one of placed code, and the function that it calls is there; no call of a
 /// service is.
-fn is_line(names: &Names, line: Line) -> bool
+fn is_line(names: &Names, line: &Line) -> bool
     ensures placed { result ≡ true
-        → IsPlacedLine (length names.now.statics.now) names.now.function.now line }
-    ensures calls { result ≡ true → CallsBelow names.now.functions line }
+        → IsPlacedLine (length names.now.statics.now) names.now.function.now line.now }
+    ensures calls { result ≡ true → CallsBelow names.now.functions line.now }
 {
-    match line {
+    match *line {
         Line::Put { to, .. } => is_home(to),
         Line::PutNull { to } => is_home(to),
         Line::Copy { to, from } => are_homes(to, from),
@@ -220,7 +220,7 @@ fn are_lines(names: &Names, lines: &[Line]) -> bool
         × All (CallsBelow names.now.functions) lines.now }
 {
     for line in lines {
-        if !is_line(names, *line) {
+        if !is_line(names, line) {
             return false;
         }
     }

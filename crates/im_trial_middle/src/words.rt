@@ -4,6 +4,7 @@ use im_trial::{Case, Stop};
 
 /// What is left of a line of code, whose words blanks part. A word that is no such thing ends the
 /// case, which goes on with another.
+#[derive(Drop)]
 pub(crate) struct Left<'a> {
     text: &'a str,
 }

@@ -1,22 +1,25 @@
-use Rattle.std.proofs.Common.{◌<◌, ◌≤◌, length, subst, take_all, arith}
-use Rattle.std.specs.Prelude.{All}
+use Rattle.std.proofs.Common.{◌≤◌, length, subst, take_all, arith}
+use Rattle.std.specs.Prelude.{All, pos}
 use Rattle.std.proofs.lemmas.List.Elements.{All-more}
+use Rattle.im_block.specs.declared.code.Line.{Line}
+use Rattle.im_block.specs.declared.code.Line.TheVariants.{Put}
 use Rattle.im_alloc_placed.specs.Placed.{IsPlacedLine}
 use Rattle.im_select.specs.Places.{CallsBelow}
 use Rattle.im_trial_middle.proofs.placed.are_lines.Goals as goal
+
+abbrev blank : Line
+blank = Put 0 (pos 0)
 
 pub loop-line-preserved : goal.loop-line-preserved
 loop-line-preserved c =
     let names = c.args.names.now in
     let lines = c.args.lines.now in
     let i = c.loop-line.line-index in
-    let line = c.line-item.result in
-    let within : i < length lines = omega arith in
     let yes = c.if-not-is_line.false in
     let IsPlaced = IsPlacedLine (length names.statics.now) names.function.now in
     record {
-      placed = All-more IsPlaced lines i line within c.loop-line.invariant.placed (subst IsPlaced c.line-item.is (c.is_line.ensures.placed yes));
-      calls = All-more (CallsBelow names.functions) lines i line within c.loop-line.invariant.calls (subst (CallsBelow names.functions) c.line-item.is (c.is_line.ensures.calls yes));
+      placed = All-more IsPlaced lines i blank c.loop-line-test.true c.loop-line.invariant.placed (c.is_line.ensures.placed yes);
+      calls = All-more (CallsBelow names.functions) lines i blank c.loop-line-test.true c.loop-line.invariant.calls (c.is_line.ensures.calls yes);
     }
 
 pub returns : goal.returns
