@@ -121,10 +121,11 @@ def check_long_lines(room):
     says(room, "a long line", line, (f"a.c:1:{len(front) + 6}: {BYTE}", line, under(line[: len(front) + 5])))
 
 
-@test("check tells links over 512 at the first of them, and a typedef name that stands for over 250 derivations")
+@test("check tells dimensions over 512 at the first of them, and a typedef name that stands for over 250 derivations")
 def check_chains(room):
-    line = "int a = " + "(int)" * 513 + "1;"
-    says(room, "links", line + "\n", ("a.c:1:2569: links over 512 at '(': more than 512 parentheses, brackets and comma operators stand in one statement", line, under(line[:2568])))
+    line = "int a" + "[1]" * 514 + ";"
+    told = "a.c:1:1542: dimensions over 512 at '[': more than 512 [..] stand directly behind one another"
+    says(room, "dimensions", line + "\n", (told, line, under(line[:1541])))
     row = "typedef int t0;\n" + "".join(f"typedef t{it} *t{it + 1};\n" for it in range(251)) + "int main(void) { return 0; }\n"
     told = "a.c:252:14: derivations 251 over 250 in 't251': a typedef name stands for at most 250 pointers, arrays and functions"
     says(room, "derivations", row, (told, "typedef t250 *t251;", under("typedef t250 ")))

@@ -93,8 +93,9 @@ TRACES = [
 SOURCES = [
     (b"(" * 1_048_576, ":1: nesting over 200"),
     (b" " * 4_194_305, ": source 4194305 over 4194304"),
-    (b"int a=" + b"(int)" * 500_000 + b"1;", ":1: links over 512"),
-    (b"int a=(1;\n" + b"int b=(2);\n" * 300_000, ":1: syntax"),
+    (b"int a" + b"[1]" * 500_000 + b";", ":1: dimensions over 512"),
+    (b"int a;\nint b=a" + b"[0]" * 500_000 + b";", ":2: dimensions over 512"),
+    (b"int a=(1;\nint b" + b"[1]" * 500_000 + b";", ":1: syntax"),
     (b"typedef int t" + b"[1]" * 251 + b";", ": derivations 251 over 250"),
     (b"", ":1: syntax"),
     (b"\n" * 1_000_000, ":1000001: syntax"),

@@ -179,9 +179,9 @@ def chains(room):
     for what, (most, source_of) in CHAINS.items():
         same(f"{most} of {what}", refused(room, source_of(most)), "built")
         same(f"{most + 10} of {what}", refused(room, source_of(most + 10)), "1: nesting over 200")
-    casts = lambda n: "int main(void) { return " + "(int)" * n + "7; }"
-    same("512 links", refused(room, casts(512)), "built")
-    same("513 links", refused(room, casts(513)), "1: links over 512")
+    arrays = lambda n: "int a" + "[1]" * n + "; int main(void) { return 7; }"
+    same("512 dimensions", refused(room, arrays(512)), "built")
+    same("513 dimensions", refused(room, arrays(513)), "1: dimensions over 512")
     types = lambda n: "typedef int t0; " + "".join(f"typedef t{it} *t{it + 1}; " for it in range(n)) + "int main(void) { return 0; }"
     same("250 derivations", refused(room, types(250)), "built")
     same("251 derivations", refused(room, types(251)), "derivations 251 over 250")

@@ -9,37 +9,19 @@ use Rattle.im_ctree.specs.declared.operator.BinaryOp.{BinaryOp}
 use Rattle.im_ctree.specs.declared.operator.StepOp.{StepOp}
 use Rattle.im_ctree.specs.declared.operator.UnaryOp.{UnaryOp}
 
--- `a[b]` (C11 6.5.2.1)
-abbrev pub IsIndex : k.ExpressionKind → Type 0
-IsIndex e = (a : Box Expression Global) × (b : Box Expression Global) × (e ≡ k.Index a b)
-
 -- a call (C11 6.5.2.2)
 abbrev pub IsCall : k.ExpressionKind → Type 0
 IsCall e = (f : Box Expression Global) × (xs : Vec Expression Global) × (e ≡ k.Call f xs)
 
--- `a.m` or `a->m` (C11 6.5.2.3)
-abbrev pub IsMember : k.ExpressionKind → Type 0
-IsMember e = ((a : Box Expression Global) × (m : Vec ℕ Global) × (e ≡ k.Member a m))
-    ⊎ ((a : Box Expression Global) × (m : Vec ℕ Global) × (e ≡ k.Arrow a m))
-
--- one operand (C11 6.5.2.4, 6.5.3)
+-- one operand, before which it stands (C11 6.5.3)
 abbrev pub IsUnary : k.ExpressionKind → Type 0
-IsUnary e = ((o : StepOp) × (a : Box Expression Global) × (e ≡ k.PostStep o a))
-    ⊎ ((o : StepOp) × (a : Box Expression Global) × (e ≡ k.PreStep o a))
+IsUnary e = ((o : StepOp) × (a : Box Expression Global) × (e ≡ k.PreStep o a))
     ⊎ ((o : UnaryOp) × (a : Box Expression Global) × (e ≡ k.Unary o a))
     ⊎ ((a : Box Expression Global) × (e ≡ k.SizeOfExpression a))
     ⊎ ((n : Box TypeName Global) × (e ≡ k.SizeOfType n))
-
--- a cast (C11 6.5.4)
-abbrev pub IsCast : k.ExpressionKind → Type 0
-IsCast e = (n : Box TypeName Global) × (a : Box Expression Global) × (e ≡ k.Cast n a)
 
 -- a binary or conditional expression or an assignment (C11 6.5.5 to 6.5.16)
 abbrev pub IsOperation : k.ExpressionKind → Type 0
 IsOperation e = ((o : BinaryOp) × (a : Box Expression Global) × (b : Box Expression Global) × (e ≡ k.Binary o a b))
     ⊎ ((a : Box Expression Global) × (b : Box Expression Global) × (c : Box Expression Global) × (e ≡ k.Conditional a b c))
     ⊎ ((o : AssignOp) × (a : Box Expression Global) × (b : Box Expression Global) × (e ≡ k.Assign o a b))
-
--- `a, b` (C11 6.5.17)
-abbrev pub IsComma : k.ExpressionKind → Type 0
-IsComma e = (a : Box Expression Global) × (b : Box Expression Global) × (e ≡ k.Comma a b)

@@ -1,16 +1,19 @@
 //! The terms of expressions.
-ghost use Rattle.std.specs.Prelude.{MatchResult, ◌≡◌};
+ghost use Rattle.std.specs.Prelude.{MatchResult, ◌≡◌, None};
 ghost use Rattle.im_check_expression_parts.specs.im_rules.Breaks.{some_expressions};
 ghost use Rattle.im_check_expression_parts.specs.im_rules.Strings.{strings_among};
 ghost use Rattle.im_check_expression_parts.specs.im_rules.Typed.{AreTyped};
 ghost use Rattle.im_check_expression_parts.specs.im_rules_limits.Limits.{IsWithin};
 ghost use Rattle.im_ctree_parts.specs.Lists.{expression_in, expressions_from};
+ghost use Rattle.im_check_scopes.specs.Shape.{scopes_of};
 ghost use Rattle.im_check_declarators.specs.Suffixes.{IsFault};
 ghost use Rattle.im_check_place.specs.Contexts.{context_of, behind_strings};
 ghost use Rattle.im_check_expression_parts.specs.Walked.{IsTyped, terms_in};
+ghost use Rattle.im_check_expressions.specs.Links.{first_of};
 
 use crate::leaves::text;
-use crate::operands::{call, cast, comma, member, operation, subscript, unary};
+use crate::links::{Link, first_operand, linked, named_type};
+use crate::operands::{call, operation, unary};
 use im_check_name_forms::{character_term, name_term, number_term};
 use im_check_operands::Term;
 use im_check_place::Place;
@@ -18,9 +21,31 @@ use im_check_stop::Stop;
 use im_ctree::{Expression, ExpressionKind};
 use std::alloc::Global;
 
-/// The term of an expression (C11 6.5). It recurs as deep as the tree is.
+/// The term of an expression (C11 6.5). A loop goes down first operands and one goes up again, so
+/// that chains of them take no stack.
 #[cycle(walk)]
 pub fn expression(alloc: Global, e: &Expression, place: &mut Place) -> Result<Term, Stop>
+    ensures { IsTyped place.old (expression_in e.now) place.new result }
+{
+    let mut links = Vec::new(alloc);
+    let mut rest = e;
+    while let Some(first) = first_operand(&place.scope, rest) {
+        let named = named_type(alloc, rest, place)?;
+        links.push(Link { whole: rest, named })?;
+        rest = first;
+    }
+    let mut x = ending(alloc, rest, place)?;
+    while let Some(Link { whole, named }) = links.pop() {
+        x = linked(alloc, whole, named, x, place)?;
+    }
+    Ok(x)
+}
+
+/// The term of an expression with which a chain ends.
+#[cycle(walk)]
+#[inline(never)]
+fn ending(alloc: Global, e: &Expression, place: &mut Place) -> Result<Term, Stop>
+    requires { first_of (scopes_of place.old.scope) (expression_in e.now) ≡ None }
     ensures { IsTyped place.old (expression_in e.now) place.new result }
 {
     match &e.kind {
@@ -30,19 +55,20 @@ pub fn expression(alloc: Global, e: &Expression, place: &mut Place) -> Result<Te
         ExpressionKind::Number(number) => Ok(number_term(*number)),
         ExpressionKind::Character(value) => Ok(character_term(*value)),
         ExpressionKind::Text(bytes) => text(alloc, bytes, place),
-        ExpressionKind::Index(_, _) => subscript(alloc, e, place),
         ExpressionKind::Call(_, _) => call(alloc, e, place),
-        ExpressionKind::Member(_, _) | ExpressionKind::Arrow(_, _) => member(alloc, e, place),
-        ExpressionKind::PostStep(_, _)
-        | ExpressionKind::PreStep(_, _)
+        ExpressionKind::PreStep(_, _)
         | ExpressionKind::Unary(_, _)
         | ExpressionKind::SizeOfExpression(_)
         | ExpressionKind::SizeOfType(_) => unary(alloc, e, place),
-        ExpressionKind::Cast(_, _) => cast(alloc, e, place),
         ExpressionKind::Binary(_, _, _)
         | ExpressionKind::Conditional(_, _, _)
         | ExpressionKind::Assign(_, _, _) => operation(alloc, e, place),
-        ExpressionKind::Comma(_, _) => comma(alloc, e, place),
+        ExpressionKind::Index(_, _)
+        | ExpressionKind::Member(_, _)
+        | ExpressionKind::Arrow(_, _)
+        | ExpressionKind::PostStep(_, _)
+        | ExpressionKind::Cast(_, _)
+        | ExpressionKind::Comma(_, _) => unreachable!(),
     }
 }
 

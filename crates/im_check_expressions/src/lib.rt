@@ -5,6 +5,7 @@ mod declarators;
 mod expressions;
 mod formals;
 mod leaves;
+mod links;
 mod operands;
 mod suffixes;
 mod type_names;

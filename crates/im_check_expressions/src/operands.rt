@@ -1,80 +1,42 @@
-//! The terms of expressions that have operands, form by form. None of these functions is inlined, so
-//! that the walk takes the stack of one of them at each step down the tree, and not of all.
+//! The terms of expressions that have operands, form by form, but for those with which a chain goes
+//! on. None of these functions is inlined, so that the walk takes the stack of one of them at each
+//! step down the tree, and not of all.
+ghost use Rattle.std.specs.Prelude.{◌≡◌, None};
+ghost use Rattle.im_check_scopes.specs.Shape.{scopes_of};
 ghost use Rattle.im_ctree_parts.specs.Lists.{expression_in};
 ghost use Rattle.im_check_expression_parts.specs.Walked.{IsTyped};
-ghost use Rattle.im_check_expressions.specs.Forms.{IsIndex, IsCall, IsMember, IsUnary, IsCast, IsOperation, IsComma};
+ghost use Rattle.im_check_expressions.specs.Forms.{IsCall, IsUnary, IsOperation};
+ghost use Rattle.im_check_expressions.specs.Links.{first_of};
 
 use crate::expressions::{expression, terms};
-use crate::leaves::{called, names_function, not_called};
+use crate::leaves::called;
 use crate::type_names::type_name;
 use im_check_conversions::type_in;
 use im_check_forms::{
-    assign_term, binary_term, cast_term, comma_term, conditional_term, index_term, size_term,
-    step_term, unary_term,
+    assign_term, binary_term, conditional_term, size_term, step_term, unary_term,
 };
-use im_check_members::{arrowed, dotted};
 use im_check_operands::Term;
 use im_check_place::Place;
 use im_check_stop::Stop;
 use im_ctree::{Expression, ExpressionKind};
 use std::alloc::Global;
 
-/// The term of `a[b]` (C11 6.5.2.1).
-#[cycle(walk)]
-#[inline(never)]
-pub(crate) fn subscript(alloc: Global, e: &Expression, place: &mut Place) -> Result<Term, Stop>
-    requires { IsIndex e.now.kind }
-    ensures { IsTyped place.old (expression_in e.now) place.new result }
-{
-    let ExpressionKind::Index(whole, by) = &e.kind else {
-        unreachable!()
-    };
-    let x = expression(alloc, whole, place)?;
-    let y = expression(alloc, by, place)?;
-    index_term(alloc, place.structs.table(), e.at, x, y)
-}
-
-/// The term of a call (C11 6.5.2.2).
+/// The term of a call of a function by its name (C11 6.5.2.2).
 #[cycle(walk)]
 #[inline(never)]
 pub(crate) fn call(alloc: Global, e: &Expression, place: &mut Place) -> Result<Term, Stop>
-    requires { IsCall e.now.kind }
+    requires form { IsCall e.now.kind }
+    requires ends { first_of (scopes_of place.old.scope) (expression_in e.now) ≡ None }
     ensures { IsTyped place.old (expression_in e.now) place.new result }
 {
     let ExpressionKind::Call(callee, arguments) = &e.kind else {
         unreachable!()
     };
-    if names_function(&place.scope, callee) {
-        let xs = terms(alloc, arguments, place)?;
-        called(alloc, place, e.at, callee, xs)
-    } else {
-        let x = expression(alloc, callee, place)?;
-        let xs = terms(alloc, arguments, place)?;
-        Err(not_called(e.at, x, xs))
-    }
+    let xs = terms(alloc, arguments, place)?;
+    called(alloc, place, e.at, callee, xs)
 }
 
-/// The term of a member (C11 6.5.2.3).
-#[cycle(walk)]
-#[inline(never)]
-pub(crate) fn member(alloc: Global, e: &Expression, place: &mut Place) -> Result<Term, Stop>
-    requires { IsMember e.now.kind }
-    ensures { IsTyped place.old (expression_in e.now) place.new result }
-{
-    match &e.kind {
-        ExpressionKind::Member(whole, name) => {
-            let x = expression(alloc, whole, place)?;
-            dotted(alloc, place.structs.table(), e.at, x, name)
-        }
-        ExpressionKind::Arrow(pointer, name) => {
-            let x = expression(alloc, pointer, place)?;
-            arrowed(alloc, place.structs.table(), e.at, x, name)
-        }
-        _ => unreachable!(),
-    }
-}
-
-/// The term of an expression of one operand (C11 6.5.2.4, 6.5.3).
+/// The term of an expression of one operand (C11 6.5.3).
 #[cycle(walk)]
 #[inline(never)]
 pub(crate) fn unary(alloc: Global, e: &Expression, place: &mut Place) -> Result<Term, Stop>
@@ -82,18 +44,6 @@ pub(crate) fn unary(alloc: Global, e: &Expression, place: &mut Place) -> Result<
     ensures { IsTyped place.old (expression_in e.now) place.new result }
 {
     match &e.kind {
-        ExpressionKind::PostStep(op, operand) => {
-            let x = expression(alloc, operand, place)?;
-            step_term(
-                alloc,
-                place.structs.table(),
-                place.structs.free(),
-                e.at,
-                *op,
-                true,
-                x,
-            )
-        }
         ExpressionKind::PreStep(op, operand) => {
             let x = expression(alloc, operand, place)?;
             step_term(
@@ -120,21 +70,6 @@ pub(crate) fn unary(alloc: Global, e: &Expression, place: &mut Place) -> Result<
         }
         _ => unreachable!(),
     }
-}
-
-/// The term of a cast (C11 6.5.4).
-#[cycle(walk)]
-#[inline(never)]
-pub(crate) fn cast(alloc: Global, e: &Expression, place: &mut Place) -> Result<Term, Stop>
-    requires { IsCast e.now.kind }
-    ensures { IsTyped place.old (expression_in e.now) place.new result }
-{
-    let ExpressionKind::Cast(name, operand) = &e.kind else {
-        unreachable!()
-    };
-    let q = type_name(alloc, name, place)?;
-    let x = expression(alloc, operand, place)?;
-    cast_term(alloc, place.structs.table(), e.at, q.ty, x)
 }
 
 /// The term of a binary or conditional expression or of an assignment (C11 6.5.5 to 6.5.16).
@@ -171,19 +106,4 @@ pub(crate) fn operation(alloc: Global, e: &Expression, place: &mut Place) -> Res
         }
         _ => unreachable!(),
     }
-}
-
-/// The term of `a, b` (C11 6.5.17).
-#[cycle(walk)]
-#[inline(never)]
-pub(crate) fn comma(alloc: Global, e: &Expression, place: &mut Place) -> Result<Term, Stop>
-    requires { IsComma e.now.kind }
-    ensures { IsTyped place.old (expression_in e.now) place.new result }
-{
-    let ExpressionKind::Comma(left, right) = &e.kind else {
-        unreachable!()
-    };
-    let x = expression(alloc, left, place)?;
-    let y = expression(alloc, right, place)?;
-    Ok(comma_term(alloc, place.structs.table(), x, y)?)
 }

@@ -1,3 +1,4 @@
+pub mod Chains
 pub mod Firsts
 pub mod Given
 pub mod Spots

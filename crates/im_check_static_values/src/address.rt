@@ -1,20 +1,18 @@
 //! Address constants: places in statics that are reached by members and constant moves (C11 6.6p9).
-ghost use Rattle.std.specs.Prelude.{◌≡◌, ◌+ℤ◌, ◌*ℤ◌, pos, neg_ℤ, if◌then◌else◌, IfOk, ◌≤ℤ◌, ◌<ℤ◌, ◌^◌};
+ghost use Rattle.std.specs.Prelude.{◌≡◌, ◌+ℤ◌, ◌*ℤ◌, ◌≤ℤ◌, ◌<ℤ◌, ◌^◌, pos, neg_ℤ, IfOk, Some};
+ghost use Rattle.std.specs.Prelude.{if◌then◌else◌};
 ghost use Rattle.std.specs.Option.{option_map};
 ghost use Rattle.im_ctype.specs.Table.{Table};
 ghost use Rattle.im_typed.specs.ProgramOf as q;
 ghost use Rattle.im_check_items.specs.im_rules.StaticValues as v;
-ghost use Rattle.im_check_constancy.specs.Told.{number_in};
-ghost use Rattle.im_check_items.specs.im_rules.Constants.{constant_value};
-ghost use Rattle.im_check_static_values.specs.Spots.{spot_in};
+ghost use Rattle.im_check_static_values.specs.Spots.{spot_in, bytes_of, stepped, beginning};
 
-use crate::constant::{constant_value, taken};
 use crate::sizes::Sizes;
+use crate::steps::{Step, static_of};
 use im_num::NoMemory;
 use im_store::Number;
-use im_typed::{Expr, Place};
+use im_typed::Expr;
 use std::alloc::Global;
-use std::mem;
 
 /// A place in a static, or at its end.
 #[derive(Clone, Copy, Debug)]
@@ -54,68 +52,55 @@ fn target(offset: u64, bytes: u32, back: bool, by: Number) -> i128
     }
 }
 
-/// A place moved by a number of elements.
-fn moved<S: Sizes>(
-    sizes: &S,
-    from: Option<Spot>,
-    bytes: u32,
-    back: bool,
-    by: Option<Number>,
-) -> Result<Option<Spot>, NoMemory>
-    ensures { IfOk result (λ s. option_map spot_in s
-        ≡ v.moved_spot (S.size sizes.now) (option_map spot_in from)
-        (v.bytes_moved bytes back (number_in by))) }
+/// The offset that is a step further on.
+fn behind(offset: u64, step: Step) -> i128
+    ensures { result ≡ pos offset +ℤ bytes_of step }
 {
-    let Some(spot) = from else {
-        return Ok(None);
-    };
-    let Some(steps) = by else {
-        return Ok(None);
-    };
-    kept(sizes, spot.object, target(spot.offset, bytes, back, steps))
+    match step {
+        Step::Elements { bytes, back, by } => target(offset, bytes, back, by),
+        Step::Member(by) => offset as i128 + by as i128,
+    }
 }
 
-/// A member of what lies at a place.
-fn member<S: Sizes>(sizes: &S, from: Option<Spot>, offset: u32) -> Result<Option<Spot>, NoMemory>
+/// A place moved by a step.
+fn moved<S: Sizes>(sizes: &S, from: Option<Spot>, step: Step) -> Result<Option<Spot>, NoMemory>
     ensures { IfOk result (λ s. option_map spot_in s
-        ≡ v.moved_spot (S.size sizes.now) (option_map spot_in from) (Some (pos offset))) }
+        ≡ v.moved_spot (S.size sizes.now) (option_map spot_in from) (Some (bytes_of step))) }
 {
     match from {
         None => Ok(None),
-        Some(spot) => kept(sizes, spot.object, spot.offset as i128 + offset as i128),
+        Some(spot) => kept(sizes, spot.object, behind(spot.offset, step)),
     }
 }
 
-/// A place out of where it stands, in which another one stays.
-fn taken_place(place: &mut Place) -> Place
-    ensures { result ≡ place.old }
+/// A place moved by steps, the last one first.
+fn moved_by<S: Sizes>(
+    sizes: &S,
+    from: Option<Spot>,
+    mut steps: Vec<Step>,
+) -> Result<Option<Spot>, NoMemory>
+    ensures { IfOk result (λ s. option_map spot_in s
+        ≡ stepped (S.size sizes.now) steps.items (option_map spot_in from)) }
 {
-    mem::replace(place, Place::Local(0))
+    let mut spot = from;
+    while let Some(step) = steps.pop() {
+        spot = moved(sizes, spot, step)?;
+    }
+    Ok(spot)
 }
 
-/// The place in a static that a place is, if it is one.
-#[cycle(spots)]
-fn spot_of<S: Sizes>(alloc: Global, sizes: &S, place: Place) -> Result<Option<Spot>, NoMemory>
-    ensures { (types : Table) → IfOk result (λ s. option_map spot_in s
-        ≡ v.spot_of (S.size sizes.now) (q.place_of types place)) }
+/// The start of a static.
+fn start_of(object: Option<u32>) -> Option<Spot>
+    ensures { option_map spot_in result ≡ beginning object }
 {
-    let mut place = place;
-    match &mut place {
-        Place::Static(object) => Ok(Some(Spot {
-            object: *object,
-            offset: 0,
-        })),
-        Place::Local(_) => Ok(None),
-        Place::Target(pointer) => address_of(alloc, sizes, taken(pointer)),
-        Place::Member(whole, offset) => {
-            let from = spot_of(alloc, sizes, taken_place(whole))?;
-            member(sizes, from, *offset)
-        }
+    match object {
+        None => None,
+        Some(object) => Some(Spot { object, offset: 0 }),
     }
 }
 
-/// The place in a static to which an expression points, if it is an address constant.
-#[cycle(spots)]
+/// The place in a static to which an expression points, if it is an address constant. Its steps
+/// are taken from the static on, whose bytes bound each of them.
 pub(crate) fn address_of<S: Sizes>(
     alloc: Global,
     sizes: &S,
@@ -124,24 +109,7 @@ pub(crate) fn address_of<S: Sizes>(
     ensures { (types : Table) → IfOk result (λ s. option_map spot_in s
         ≡ v.address_of (S.size sizes.now) (q.expr_of types e)) }
 {
-    let mut e = e;
-    match &mut e {
-        Expr::Address(place) => spot_of(alloc, sizes, taken_place(place)),
-        Expr::Move {
-            size,
-            back,
-            pointer,
-            by,
-        } => {
-            let from = address_of(alloc, sizes, taken(pointer))?;
-            let steps = constant_value(alloc, taken(by))?;
-            moved(sizes, from, *size, *back, steps)
-        }
-        Expr::MoveBy { size, by, pointer } => {
-            let from = address_of(alloc, sizes, taken(pointer))?;
-            let steps = constant_value(alloc, taken(by))?;
-            moved(sizes, from, *size, false, steps)
-        }
-        _ => Ok(None),
-    }
+    let mut steps = Vec::new(alloc);
+    let object = static_of(alloc, e, &mut steps)?;
+    moved_by(sizes, start_of(object), steps)
 }

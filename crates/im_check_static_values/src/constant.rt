@@ -1,10 +1,12 @@
 //! What a typed expression is as a constant expression (C11 6.6p3, p6).
-ghost use Rattle.std.specs.Prelude.{◌≡◌, false, pos, IfOk, IfSome};
+ghost use Rattle.std.specs.Prelude.{◌≡◌, ◌≤◌, ◌<◌, false, pos, IfOk, MatchResult};
 ghost use Rattle.im_ctype.specs.Table.{Table};
 ghost use Rattle.im_typed.specs.Program as p;
 ghost use Rattle.im_typed.specs.ProgramOf.{expr_of};
+ghost use Rattle.im_typed.specs.declared.expression.Expr.{size-Expr};
 ghost use Rattle.im_check_items.specs.im_rules.Constants as c;
 ghost use Rattle.im_check_constancy.specs.Told.{Told, number_in, variable as no_constant};
+ghost use Rattle.im_check_static_values.specs.Chains.{converted};
 
 use im_check_constancy::{
     Annotated, binary, choice, comparison, conjunction, conversion, disjunction, negation, number,
@@ -40,9 +42,64 @@ pub(crate) fn taken(e: &mut Expr) -> Expr
     mem::replace(e, Expr::Null)
 }
 
-/// A typed expression beside what it is as a constant expression. Want of memory where a number in
-/// it has more than 64 bits.
+/// A conversion's kind and what is converted; an expression that is none as it is.
+fn conversion_in(e: Expr) -> Result<(Kind, Expr), Expr>
+    ensures { MatchResult result (λ r. ((types : Table) → expr_of types e
+        ≡ p.Convert r.0 (expr_of types r.1)) × (size-Expr r.1 < size-Expr e)) (λ x. x ≡ e) }
+{
+    let mut e = e;
+    match &mut e {
+        Expr::Convert(kind, operand) => Ok((*kind, taken(operand))),
+        _ => Err(e),
+    }
+}
+
+/// What is converted, and the kinds of its conversions, the last one first.
+fn unconverted(alloc: Global, e: Expr) -> Result<(Vec<Kind>, Expr), NoMemory>
+    ensures whole { (types : Table) → IfOk result (λ r. converted r.0.items (expr_of types r.1)
+        ≡ expr_of types e) }
+    ensures below { IfOk result (λ r. size-Expr r.1 ≤ size-Expr e) }
+{
+    let mut kinds = Vec::new(alloc);
+    let mut rest = e;
+    loop {
+        match conversion_in(rest) {
+            Ok((kind, operand)) => {
+                kinds.push(kind)?;
+                rest = operand;
+            }
+            Err(operand) => return Ok((kinds, operand)),
+        }
+    }
+}
+
+/// An expression converted to these kinds, the last one first.
+fn conversions(alloc: Global, mut kinds: Vec<Kind>, e: Annotated) -> Result<Annotated, NoMemory>
+    ensures { (types : Table) → IfOk result (λ a. expr_of types a.tree
+        ≡ converted kinds.items (expr_of types e.tree)) }
+{
+    let mut whole = e;
+    while let Some(kind) = kinds.pop() {
+        whole = conversion(alloc, kind, whole)?;
+    }
+    Ok(whole)
+}
+
+/// A typed expression beside what it is as a constant expression. Loops go down its conversions
+/// and back, so that chains of them take no stack. Want of memory where a number in it has more
+/// than 64 bits.
+#[cycle(annotated)]
 pub fn annotated(alloc: Global, e: Expr) -> Result<Annotated, NoMemory>
+    ensures { (types : Table) → IfOk result (λ a. expr_of types a.tree ≡ expr_of types e) }
+{
+    let (kinds, operand) = unconverted(alloc, e)?;
+    let inner = annotated_form(alloc, operand)?;
+    conversions(alloc, kinds, inner)
+}
+
+/// A typed expression whose operands are looked at each for itself.
+#[cycle(annotated)]
+fn annotated_form(alloc: Global, e: Expr) -> Result<Annotated, NoMemory>
     ensures { (types : Table) → IfOk result (λ a. expr_of types a.tree ≡ expr_of types e) }
 {
     if let Expr::Number(kind, z) = &e {

@@ -9,6 +9,7 @@ mod given;
 pub mod laws;
 mod reached;
 mod sizes;
+mod steps;
 mod value;
 
 pub use cells::cells_of;

@@ -5,20 +5,27 @@ ghost use Rattle.im_check_items.specs.im_ctree_parts.Lists.{expression_in};
 
 use im_ctree::{Expression, ExpressionKind, UnaryOp};
 
-/// Whether no unary `*` and no `->` reaches what an expression designates.
+/// Whether no unary `*` and no `->` reaches what an expression designates. A loop goes down first
+/// operands, so that chains of members, indices and operators take no stack.
 pub fn is_reached_directly(e: &Expression) -> bool
     ensures { result ≡ v.is_reached_directly (expression_in e.now) }
 {
-    match &e.kind {
-        ExpressionKind::Unary(op, operand) => match op {
-            UnaryOp::Dereference => false,
-            _ => is_reached_directly(operand),
-        },
-        ExpressionKind::Arrow(_, _) => false,
-        ExpressionKind::Member(whole, _) => is_reached_directly(whole),
-        ExpressionKind::Index(left, right) | ExpressionKind::Binary(_, left, right) => {
-            is_reached_directly(left) && is_reached_directly(right)
+    let mut rest = e;
+    loop {
+        match &rest.kind {
+            ExpressionKind::Unary(op, operand) => match op {
+                UnaryOp::Dereference => return false,
+                _ => rest = operand,
+            },
+            ExpressionKind::Arrow(_, _) => return false,
+            ExpressionKind::Member(whole, _) => rest = whole,
+            ExpressionKind::Index(left, right) | ExpressionKind::Binary(_, left, right) => {
+                if !is_reached_directly(right) {
+                    return false;
+                }
+                rest = left;
+            }
+            _ => return true,
         }
-        _ => true,
     }
 }

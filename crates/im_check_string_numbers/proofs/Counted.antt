@@ -16,6 +16,11 @@ use Rattle.im_ctree_parts.proofs.Shapes.{member_shape, declarator_shape, paramet
 pub joined : (next inner : ℕ) (xs ys zs : List Name) → zs ≡ xs ++ ys → inner ≡ next + length xs → inner + length ys ≡ next + length zs
 joined next inner xs ys zs e f = omega (arith, ap length e, length-append xs ys, f)
 
+-- what stands beside one part is counted, and that part is left
+pub others_counted : (done inner all : ℕ) (before part behind whole : List Name) → whole ≡ before ++ (part ++ behind) → inner ≡ done + length (before ++ behind) → done + length whole ≡ all → inner + length part ≡ all
+others_counted done inner all before part behind whole e f g =
+    omega (arith, ap length e, length-append before (part ++ behind), length-append part behind, length-append before behind, f, g)
+
 -- a part of one that has others behind it
 pub passing : {R : Type 0} (r : Result ℕ NoMemory) (next : ℕ) (xs : List Name) (whole others : R → List Name)
     → ((rest : R) → whole rest ≡ xs ++ others rest)

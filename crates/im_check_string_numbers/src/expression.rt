@@ -1,19 +1,53 @@
 //! Expressions and type names. Each function is given the number of the next string literal before
 //! the part, and gives that behind it; want of memory where it is 2^32 or more.
-ghost use Rattle.std.specs.Prelude.{◌≡◌, ◌+◌, length, IfOk};
+ghost use Rattle.std.specs.Prelude.{◌≡◌, ◌+◌, ◌++◌, length, IfOk};
 ghost use Rattle.im_ctree.specs.Shape.{type_name_of};
 ghost use Rattle.im_rules.specs.Strings.{strings_in, strings_among, strings_maybe, strings_named};
 ghost use Rattle.im_ctree_parts.specs.Lists.{expression_in, expressions_from, maybe_from};
+ghost use Rattle.im_check_string_numbers.specs.Chains.{before_first, behind_first};
 
+use crate::chain::first_operand;
 use crate::declarator::behind_declarator_if_any;
 use crate::specifier::behind_specifiers;
 use crate::step::behind_one;
 use im_ctree::{Expression, ExpressionKind, TypeName};
 use im_num::NoMemory;
 
-/// The number of the next string literal behind an expression (C11 6.5).
+/// The number of the next string literal behind an expression (C11 6.5). A loop goes down first
+/// operands and what is cast, so that chains of them take no stack; how many literals stand in an
+/// expression doesn't depend on the order in which its parts are counted.
 #[cycle(strings)]
 pub fn behind_expression(next: u32, e: &Expression) -> Result<u32, NoMemory>
+    ensures { IfOk result (λ n. n ≡ next + length (strings_in (expression_in e.now))) }
+{
+    let mut done = next;
+    let mut rest = e;
+    while let Some(first) = first_operand(rest) {
+        done = behind_others(done, rest)?;
+        rest = first;
+    }
+    behind_form(done, rest)
+}
+
+/// The number behind what stands beside the operand with which a chain goes on.
+#[cycle(strings)]
+fn behind_others(next: u32, e: &Expression) -> Result<u32, NoMemory>
+    ensures { IfOk result (λ n. n ≡ next
+        + length (before_first (expression_in e.now) ++ behind_first (expression_in e.now))) }
+{
+    match &e.kind {
+        ExpressionKind::Cast(name, _) => behind_type_name(next, name),
+        ExpressionKind::Call(_, arguments) => behind_expressions(next, arguments),
+        ExpressionKind::Index(_, right) | ExpressionKind::Comma(_, right) => {
+            behind_expression(next, right)
+        }
+        _ => Ok(next),
+    }
+}
+
+/// The number behind an expression whose operands are counted each for itself.
+#[cycle(strings)]
+fn behind_form(next: u32, e: &Expression) -> Result<u32, NoMemory>
     ensures { IfOk result (λ n. n ≡ next + length (strings_in (expression_in e.now))) }
 {
     match &e.kind {

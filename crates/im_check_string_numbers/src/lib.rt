@@ -1,11 +1,13 @@
 //! From the parts of a tree to the number of the string literal that comes next behind them.
 #![tactic(auto)]
 
+mod chain;
 mod declarator;
 mod expression;
 mod specifier;
 mod step;
 
+pub use chain::first_operand;
 pub use declarator::{
     behind_core, behind_declarator, behind_declarator_if_any, behind_parameters, behind_suffixes,
 };

@@ -2,7 +2,7 @@
 use Rattle.std.specs.Prelude.{ℕ, ◌==◌, List, [], ◌∷◌, ◌++◌, codes, decimal, if◌then◌else◌}
 use Rattle.im_fault.specs.Texts.{limit_of, quantity_name}
 use Rattle.im_fault.specs.declared.fault.LineFault.{LineFault}
-use Rattle.im_fault.specs.declared.fault.LineFault.TheVariants.{BadByte, OpenComment, OpenLiteral, BadEscape, BadNumber, BadDirective, Syntax, Nesting, Links, Rule}
+use Rattle.im_fault.specs.declared.fault.LineFault.TheVariants.{BadByte, OpenComment, OpenLiteral, BadEscape, BadNumber, BadDirective, Syntax, Nesting, Dimensions, Rule}
 use Rattle.im_fault.specs.declared.fault.Quantity.{Quantity}
 use Rattle.im_fault.specs.declared.fault.Quantity.TheVariants.{Source, Parameters, Size, Statics, Frame, Code, Derivations}
 
@@ -74,7 +74,7 @@ fault_text BadNumber token = told (codes "bad number") [] token (codes "it is no
 fault_text BadDirective token = told (codes "bad directive") [] token (codes "only line markers begin with #")
 fault_text Syntax token = told (codes "syntax") [] token (syntax_sentence token)
 fault_text Nesting token = told (codes "nesting over 200") [] token (codes "more than 200 stand in one another")
-fault_text Links token = told (codes "links over 512") [] token (codes "more than 512 parentheses, brackets and comma operators stand in one statement")
+fault_text Dimensions token = told (codes "dimensions over 512") [] token (codes "more than 512 [..] stand directly behind one another")
 fault_text (Rule number) token = told (codes "rule ") (decimal number) token (rule_sentence number)
 
 -- what a limit asks for

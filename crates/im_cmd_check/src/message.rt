@@ -135,12 +135,12 @@ fn send_why<S: Sink>(sink: &mut S, why: LineFault, token: &[u8]) -> Result<(), F
             token,
             b"more than 200 stand in one another",
         ),
-        LineFault::Links => send_told(
+        LineFault::Dimensions => send_told(
             sink,
-            b"links over 512",
+            b"dimensions over 512",
             b"",
             token,
-            b"more than 512 parentheses, brackets and comma operators stand in one statement",
+            b"more than 512 [..] stand directly behind one another",
         ),
         LineFault::Rule(number) => send_rule(sink, number, token),
     }

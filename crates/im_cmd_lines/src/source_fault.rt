@@ -77,7 +77,7 @@ fn send_line_fault<S: Sink>(
         LineFault::BadDirective => send_in_line(sink, name, place.line, b"bad directive"),
         LineFault::Syntax => send_in_line(sink, name, place.line, b"syntax"),
         LineFault::Nesting => send_in_line(sink, name, place.line, b"nesting over 200"),
-        LineFault::Links => send_in_line(sink, name, place.line, b"links over 512"),
+        LineFault::Dimensions => send_in_line(sink, name, place.line, b"dimensions over 512"),
         LineFault::Rule(number) => send_numbered_in_line(sink, name, place.line, b"rule ", number),
     }
 }

@@ -1,7 +1,7 @@
 -- Refusals of the driver's steps are refusals of the source.
 use Rattle.std.proofs.Common.{ℕ, List, Option, Err}
 use Rattle.im_fault.specs.declared.fault.LineFault.{LineFault}
-use Rattle.im_fault.specs.declared.fault.LineFault.TheVariants.{BadByte, OpenComment, OpenLiteral, BadEscape, BadNumber, BadDirective, Syntax, Nesting, Links, Rule}
+use Rattle.im_fault.specs.declared.fault.LineFault.TheVariants.{BadByte, OpenComment, OpenLiteral, BadEscape, BadNumber, BadDirective, Syntax, Nesting, Dimensions, Rule}
 use Rattle.im_fault.specs.declared.fault.Place.{Place}
 use Rattle.im_fault.specs.declared.fault.Quantity.TheVariants.{Source, Parameters, Size, Statics, Frame, Code, Derivations}
 use Rattle.im_fault.specs.declared.fault.SourceFault.{SourceFault}
@@ -25,7 +25,7 @@ line_refused source place BadNumber h = h
 line_refused source place BadDirective h = h
 line_refused source place Syntax h = h
 line_refused source place Nesting h = h
-line_refused source place Links h = h
+line_refused source place Dimensions h = h
 line_refused source place (Rule number) h = absurd h
 
 pub read_refused : (source : List ℕ) (fault : SourceFault) → IsRead source (Err fault) → IsRefused source fault

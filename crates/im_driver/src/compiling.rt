@@ -38,7 +38,7 @@ fn unmade(fault: CompileFault) -> SourceFault
 
 /// The typed program of a source and the image that keeps its meaning whatever power does, or why
 /// the source is refused: its length is looked at first, then its tokens, their nesting, the unit
-/// and its links, derivations, the typing rules, and the other limits.
+/// and its dimensions, derivations, the typing rules, and the other limits.
 pub fn compile_whole(
     alloc: Global,
     source: &[u8],

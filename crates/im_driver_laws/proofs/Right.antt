@@ -2,7 +2,7 @@
 use Rattle.std.proofs.Common.{◌≡◌, ℕ, ◌+◌, ◌*◌, ◌≤◌, List, ◌∷◌, Some, refl, sym, subst, arith}
 use Rattle.std.specs.Prelude.{slice_get}
 use Rattle.im_fault.specs.declared.fault.LineFault.{LineFault}
-use Rattle.im_fault.specs.declared.fault.LineFault.TheVariants.{BadByte, OpenComment, OpenLiteral, BadEscape, BadNumber, BadDirective, Syntax, Nesting, Links, Rule}
+use Rattle.im_fault.specs.declared.fault.LineFault.TheVariants.{BadByte, OpenComment, OpenLiteral, BadEscape, BadNumber, BadDirective, Syntax, Nesting, Dimensions, Rule}
 use Rattle.im_fault.specs.declared.fault.Place.{Place}
 use Rattle.im_fault.specs.declared.fault.Quantity.TheVariants.{Source, Parameters, Size, Statics, Frame, Code, Derivations}
 use Rattle.im_fault.specs.declared.fault.SourceFault.TheVariants.{Line, Limit, OutOfMemory}
@@ -10,7 +10,7 @@ use Rattle.im_tok.specs.declared.token.Token.{Token}
 use Rattle.im_lex.specs.Lexing.{Lexes, StuckAt}
 use Rattle.im_word.specs.Words.{Word}
 use Rattle.im_word.specs.Nesting.{NoneOver}
-use Rattle.im_parse.specs.Links.{NoneLinked}
+use Rattle.im_parse.specs.Dimensions.{NoneDimensioned}
 use Rattle.im_ctree.specs.Tree as t
 use Rattle.im_ctree.specs.declared.unit.Tree.{Tree}
 use Rattle.im_ctree.specs.Shape.{tree_of}
@@ -57,10 +57,10 @@ module _ (lexed : TokensLaw) (apart : ApartLaw) (listed : OneListLaw) (spelt : S
         let most = none r.number r.refused.2.within in
         absurd (omega (arith, over, most))
 
-    linked : (place : Place) → IsRefusedAt source place unit.Links → ⊥
-    linked place r =
+    dimensioned : (place : Place) → IsRefusedAt source place unit.Dimensions → ⊥
+    dimensioned place r =
         let same = one_list lexed listed source r.tokens h.tokens r.refused.0 h.is_tree.parsed.0 r.lexes h.is_tree.lexes r.refused.1 h.is_tree.parsed.1 in
-        let none = subst (λ (z : List Word). NoneLinked 512 z) (sym same) h.is_tree.parsed.2.1 in
+        let none = subst (λ (z : List Word). NoneDimensioned 512 z) (sym same) h.is_tree.parsed.2.1 in
         let first = r.refused.2.1 in
         let over = first.over in
         let most = none r.number first.within in
@@ -97,7 +97,7 @@ module _ (lexed : TokensLaw) (apart : ApartLaw) (listed : OneListLaw) (spelt : S
   right source prog (Line place BadNumber) h r = absurd (no_token source prog h.program place BadNumber r)
   right source prog (Line place BadDirective) h r = absurd (no_token source prog h.program place BadDirective r)
   right source prog (Line place Nesting) h r = absurd (nested source prog h.program place r)
-  right source prog (Line place Links) h r = absurd (linked source prog h.program place r)
+  right source prog (Line place Dimensions) h r = absurd (dimensioned source prog h.program place r)
   right source prog (Line place Syntax) h r = absurd (unspelt source prog h.program place r)
   right source prog (Line place (Rule number)) h r = absurd (unbroken source prog h.program place number r)
   right source prog (Limit Source count) h r = let few = h.short in let many = r.0 in let is = r.1 in absurd (omega (arith, few, many, is))

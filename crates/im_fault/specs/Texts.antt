@@ -1,7 +1,7 @@
 -- What is said of a refused source.
 use Rattle.std.specs.Prelude.{ℕ, List, ◌++◌, codes, decimal}
 use Rattle.im_fault.specs.declared.fault.LineFault.{LineFault}
-use Rattle.im_fault.specs.declared.fault.LineFault.TheVariants.{BadByte, OpenComment, OpenLiteral, BadEscape, BadNumber, BadDirective, Syntax, Nesting, Links, Rule}
+use Rattle.im_fault.specs.declared.fault.LineFault.TheVariants.{BadByte, OpenComment, OpenLiteral, BadEscape, BadNumber, BadDirective, Syntax, Nesting, Dimensions, Rule}
 use Rattle.im_fault.specs.declared.fault.Quantity.{Quantity}
 use Rattle.im_fault.specs.declared.fault.Quantity.TheVariants.{Source, Parameters, Size, Statics, Frame, Code, Derivations}
 use Rattle.im_fault.specs.declared.fault.SourceFault.{SourceFault}
@@ -16,7 +16,7 @@ line_fault_text BadNumber = codes "bad number"
 line_fault_text BadDirective = codes "bad directive"
 line_fault_text Syntax = codes "syntax"
 line_fault_text Nesting = codes "nesting over 200"
-line_fault_text Links = codes "links over 512"
+line_fault_text Dimensions = codes "dimensions over 512"
 line_fault_text (Rule number) = codes "rule " ++ decimal number
 
 abbrev pub quantity_name : Quantity → List ℕ

@@ -20,8 +20,8 @@ pub enum LineFault {
     Syntax,
     /// A token nested more than 200 deep.
     Nesting,
-    /// A token with which links pass 512: opening parentheses and brackets, and comma operators.
-    Links,
+    /// A `[` with which brackets in a row, each directly behind the one before, pass 512.
+    Dimensions,
     /// A node that breaks the typing rule of that number.
     Rule(u32),
 }

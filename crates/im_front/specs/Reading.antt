@@ -11,7 +11,7 @@ use Rattle.im_parse.specs.declared.text.ParseFault.{ParseFault}
 use Rattle.im_parse.specs.declared.text.ParseFault.TheVariants as unit
 use Rattle.im_parse.specs.Spelling.{IsParsedText}
 use Rattle.im_fault.specs.declared.fault.LineFault.{LineFault}
-use Rattle.im_fault.specs.declared.fault.LineFault.TheVariants.{BadByte, OpenComment, OpenLiteral, BadEscape, BadNumber, BadDirective, Syntax, Nesting, Links, Rule}
+use Rattle.im_fault.specs.declared.fault.LineFault.TheVariants.{BadByte, OpenComment, OpenLiteral, BadEscape, BadNumber, BadDirective, Syntax, Nesting, Dimensions, Rule}
 use Rattle.im_fault.specs.declared.fault.Place.{Place}
 use Rattle.im_fault.specs.declared.fault.Quantity.{Quantity}
 use Rattle.im_fault.specs.declared.fault.Quantity.TheVariants.{Source, Parameters, Size, Statics, Frame, Code, Derivations}
@@ -79,7 +79,7 @@ IsWrong source place BadEscape = IsNoToken source place BadEscape
 IsWrong source place BadNumber = IsNoToken source place BadNumber
 IsWrong source place BadDirective = IsNoToken source place BadDirective
 IsWrong source place Nesting = IsRefusedAt source place unit.Depth
-IsWrong source place Links = IsRefusedAt source place unit.Links
+IsWrong source place Dimensions = IsRefusedAt source place unit.Dimensions
 IsWrong source place Syntax = IsRefusedAt source place unit.Syntax
 IsWrong source place (Rule number) = ⊥
 

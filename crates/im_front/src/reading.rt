@@ -99,8 +99,8 @@ fn lexed(alloc: Global, source: &[u8]) -> Result<Vec<Token>, SourceFault>
 }
 
 /// The tree of a source (C11 6.4, 6.9) and where its tokens stand, or why it has none: its length
-/// is looked at first, then its tokens, their nesting, and the unit, or their links where these
-/// pass their limit first.
+/// is looked at first, then its tokens, their nesting, and the unit, or their dimensions where
+/// these pass their limit first.
 pub fn read_source(alloc: Global, source: &[u8]) -> Result<Text, SourceFault>
     ensures { IsRead source.now result }
 {
@@ -120,9 +120,9 @@ pub fn read_source(alloc: Global, source: &[u8]) -> Result<Text, SourceFault>
             place: place_of(source, &spans, number),
             why: LineFault::Nesting,
         }),
-        Err(ParseFault::Links(number)) => Err(SourceFault::Line {
+        Err(ParseFault::Dimensions(number)) => Err(SourceFault::Line {
             place: place_of(source, &spans, number),
-            why: LineFault::Links,
+            why: LineFault::Dimensions,
         }),
         Err(ParseFault::Syntax(number)) => Err(SourceFault::Line {
             place: place_of(source, &spans, number),

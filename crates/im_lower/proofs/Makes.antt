@@ -153,6 +153,19 @@ module _ (g : p.Prog) (first : ℕ) where
       ap (λ y. make g first (expr_of types l.value) free (free + 1) (make g first (expr_of types r.value) (free + 1) (free + 1 + 1) (put_operator (expr_of types y) to free m))) h.2
       ∙ sym (ap (λ y. make g first (expr_of types y) to free m) h.2)
 
+  -- what is left of a moved pointer's code once its line and the other operand's code are put
+  pub moved_left : (types : Table) (x : re.Expr) (l r : Box re.Expr Global) (to free above further : ℕ) (m m₁ m₂ : Made)
+      → ((size : ℕ) × (back : Bool) × (x ≡ re.Move size back l r)) ⊎ ((size : ℕ) × (x ≡ re.MoveBy size l r))
+      → m₁ ≡ put_operator (expr_of types x) to free m → above ≡ free + 1 → further ≡ above + 1
+      → m₂ ≡ make g first (expr_of types r.value) above further m₁
+      → make g first (expr_of types l.value) free above m₂ ≡ make g first (expr_of types x) to free m
+  moved_left types x l r to free above further m m₁ m₂ (inl h) is₁ is_above is_further is₂ =
+      two_made (expr_of types l.value) (expr_of types r.value) free above further (put_operator (expr_of types x) to free m) m₁ m₂ is_above is_further is₂ is₁
+      ∙ operator_made types x l r to free m (inr (inl h))
+  moved_left types x l r to free above further m m₁ m₂ (inr h) is₁ is_above is_further is₂ =
+      two_made (expr_of types l.value) (expr_of types r.value) free above further (put_operator (expr_of types x) to free m) m₁ m₂ is_above is_further is₂ is₁
+      ∙ operator_made types x l r to free m (inr (inr (inl h)))
+
   -- an assignment of a struct, by the struct's number
   pub struct_made : (types : Table) (x : re.Expr) (access : Access) (place : Box rp.Place Global) (value : Box re.Expr Global) (number count to free : ℕ) (m : Made)
       → x ≡ re.Assign access place value → access ≡ ra.Struct number count

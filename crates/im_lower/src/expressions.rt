@@ -1,4 +1,5 @@
-ghost use Rattle.std.specs.Prelude.{◌≡◌, ◌+◌, IfOk, OnOk};
+ghost use Rattle.std.specs.Prelude.{◌≡◌, ◌+◌, ◌<◌, IfOk, IfSome, MatchOption, OnOk};
+ghost use Rattle.im_typed.specs.declared.expression.Expr.{size-Expr};
 ghost use Rattle.im_typed.specs.ProgramOf.{access_of, expr_of, place_of, program_of};
 ghost use Rattle.im_lower_plain.specs.Make.{make, make_place, make_test, part_offset};
 ghost use Rattle.im_lower.specs.MakeEach.{make_each};
@@ -7,7 +8,7 @@ use crate::builder::{Builder, Targets, next};
 use crate::copies::{groups_in, put_copy};
 use crate::lines::{put_change, put_increment, put_load, register_at, small};
 use crate::operators::{put_operator, put_truths};
-use crate::places::{behind, changed_kind, place_at, shape_of};
+use crate::places::{behind, changed_kind, place_at, pointer_of, shape_of, undiscarded};
 use im_block::{Exit, Line};
 use im_ctype::cells_of_struct;
 use im_num::NoMemory;
@@ -46,19 +47,102 @@ pub(crate) fn lower_place(
     ensures { OnOk result (code.new ≡ make_place (program_of prog.now) first
         (place_of prog.now.types place.now) free code.old) }
 {
-    match place {
-        Place::Static(_) | Place::Local(_) => Ok(()),
-        Place::Target(pointer) => {
-            lower_expression(code, pointer, free, next(free)?, prog, first)
-        }
-        Place::Member(whole, _) => lower_place(code, whole, free, prog, first),
+    match pointer_of(place) {
+        None => Ok(()),
+        Some(pointer) => lower_expression(code, pointer, free, next(free)?, prog, first),
     }
 }
 
 /// Puts the code of an expression, whose value goes into the register `to`. Registers from `free`
-/// on may be used. It recurs as deep as the tree is, which the rules of the language bound.
+/// on may be used. It recurs as deep as the tree is, which the rules of the language bound; a loop
+/// goes down what is converted, what stands in front of a comma, and what an element is one of, so
+/// that chains of them take no stack.
 #[cycle(expressions)]
 pub(crate) fn lower_expression(
+    code: &mut Builder,
+    expression: &Expr,
+    mut to: u32,
+    mut free: u32,
+    prog: &Prog,
+    first: u32,
+) -> Result<(), NoMemory>
+    ensures { OnOk result (code.new ≡ make (program_of prog.now) first
+        (expr_of prog.now.types expression.now) to free code.old) }
+{
+    let mut rest = expression;
+    while let Some(operand) = lower_behind(code, rest, to, free, prog, first)? {
+        rest = operand;
+        to = free;
+        free = next(free)?;
+    }
+    Ok(())
+}
+
+/// Puts the code of an expression, but for that of the operand with which a chain goes on: its
+/// value is to go into the register `free`.
+#[cycle(expressions)]
+fn lower_behind<'a>(
+    code: &mut Builder,
+    expression: &'a Expr,
+    to: u32,
+    free: u32,
+    prog: &Prog,
+    first: u32,
+) -> Result<Option<&'a Expr>, NoMemory>
+    ensures made { IfOk result (λ found. MatchOption found
+        (code.new ≡ make (program_of prog.now) first
+        (expr_of prog.now.types expression.now) to free code.old)
+        (λ operand. make (program_of prog.now) first
+        (expr_of prog.now.types operand.now) free (free + 1) code.new
+        ≡ make (program_of prog.now) first
+        (expr_of prog.now.types expression.now) to free code.old)) }
+    ensures below { IfOk result (λ found. IfSome found
+        (λ operand. size-Expr operand.now < size-Expr expression.now)) }
+{
+    let kept = undiscarded(expression);
+    match kept {
+        Expr::Convert(_, operand) => {
+            put_operator(code, kept, to, free)?;
+            Ok(Some(operand))
+        }
+        Expr::Move {
+            pointer: left,
+            by: right,
+            ..
+        }
+        | Expr::MoveBy {
+            by: left,
+            pointer: right,
+            ..
+        } => {
+            put_operator(code, kept, to, free)?;
+            let above = next(free)?;
+            lower_expression(code, right, above, next(above)?, prog, first)?;
+            Ok(Some(left))
+        }
+        Expr::Comma(left, right) => {
+            lower_expression(code, right, to, free, prog, first)?;
+            Ok(Some(left))
+        }
+        Expr::Read(access, place) => {
+            put_load(code, *access, to, place_at(place, free, first)?)?;
+            Ok(pointer_of(place))
+        }
+        Expr::Address(place) => {
+            let at = place_at(place, free, first)?;
+            code.put(Line::Address { to, place: at })?;
+            Ok(pointer_of(place))
+        }
+        _ => {
+            lower_form(code, kept, to, free, prog, first)?;
+            Ok(None)
+        }
+    }
+}
+
+/// Puts the code of an expression, that of its operands by calls.
+#[cycle(expressions)]
+fn lower_form(
     code: &mut Builder,
     expression: &Expr,
     to: u32,

@@ -1,11 +1,15 @@
-ghost use Rattle.std.specs.Prelude.{◌≡◌, ◌+◌, IfOk, slice_get};
+ghost use Rattle.std.specs.Prelude.{◌≡◌, ◌+◌, ◌<◌, ◌≤◌, ℕ, IfOk, IfSome, MatchOption, slice_get};
 ghost use Rattle.std.specs.Option.{option_map};
 ghost use Rattle.im_ctype.specs.Table.{Table};
 ghost use Rattle.im_lower_relation.specs.Codes.{further_in};
+ghost use Rattle.im_typed.specs.declared.expression.Expr.{size-Expr};
+ghost use Rattle.im_typed.specs.declared.expression.Place.{size-Place};
+ghost use Rattle.im_typed.specs.Program as program;
 ghost use Rattle.im_typed.specs.ProgramOf.{access_of, expr_of, place_of, program_of};
 ghost use Rattle.im_typed.specs.Typing.{result_shape, shape_of};
 ghost use Rattle.im_typed.specs.Values.{changed_kind};
-ghost use Rattle.im_lower_plain.specs.Make.{behind, place_at};
+ghost use Rattle.im_lower_plain.specs.Made.{Made};
+ghost use Rattle.im_lower_plain.specs.Make.{behind, make, make_place, place_at};
 
 use crate::builder::{next, sum};
 use im_num::{Kind, NoMemory};
@@ -62,6 +66,38 @@ pub(crate) fn behind(place: &Place, free: u32) -> Result<u32, NoMemory>
         Place::Target(_) => next(free),
         Place::Member(whole, _) => behind(whole, free),
     }
+}
+
+/// The pointer that a place is reached by, if it is reached by one: its code is that of the place.
+pub(crate) fn pointer_of(place: &Place) -> Option<&Expr>
+    ensures made { (types : Table) (g : program.Prog) (first free : ℕ) (m : Made) → MatchOption result
+        (make_place g first (place_of types place.now) free m ≡ m)
+        (λ pointer. make_place g first (place_of types place.now) free m
+        ≡ make g first (expr_of types pointer.now) free (free + 1) m) }
+    ensures below { IfSome result (λ pointer. size-Expr pointer.now < size-Place place.now) }
+{
+    let mut part = place;
+    loop {
+        match part {
+            Place::Static(_) | Place::Local(_) => return None,
+            Place::Target(pointer) => return Some(pointer),
+            Place::Member(whole, _) => part = whole,
+        }
+    }
+}
+
+/// What casts to `void` stand around: its code is theirs.
+pub(crate) fn undiscarded(expression: &Expr) -> &Expr
+    ensures made { (types : Table) (g : program.Prog) (first to free : ℕ) (m : Made) →
+        make g first (expr_of types expression.now) to free m
+        ≡ make g first (expr_of types result.now) to free m }
+    ensures below { size-Expr result.now ≤ size-Expr expression.now }
+{
+    let mut rest = expression;
+    while let Expr::Discard(operand) = rest {
+        rest = operand;
+    }
+    rest
 }
 
 /// What an expression gives: nothing, a value of a kind, or a struct.

@@ -1,4 +1,4 @@
--- The words before the first with links over the limit, parsed alone.
+-- The words before the first with dimensions over the limit, parsed alone.
 use Rattle.std.proofs.Common.{◌≡◌, ℕ, suc, ◌<◌, ◌≤◌, List, [], length, take, drop, nat_lt, true, false, if◌then◌else◌, refl, sym, subst, arith}
 use Rattle.std.proofs.lemmas.Bool.{ltb-true, ltb-false}
 use Rattle.std.proofs.lemmas.List.{append-nil, take-append-drop, take-take, take_all, length-take}
@@ -39,7 +39,7 @@ front_to words p q past h =
 
 -- of a fault behind those words and the limit the earlier one is told
 pub earlier_told : (words : List Word) (place q : ℕ) → place < length words → IsFirstFault (take place words) q → IsCutShort words place (earlier q place)
-earlier_told words place q within h = elim (nat_lt q place) as (λ b. nat_lt q place ≡ b → IsCutShort words place (if b then fault.Syntax q else fault.Links place)) [
+earlier_told words place q within h = elim (nat_lt q place) as (λ b. nat_lt q place ≡ b → IsCutShort words place (if b then fault.Syntax q else fault.Dimensions place)) [
   | true ↦ λ e. (let before = ltb-true q place e in (before, fault_within words place q within before h))
   | false ↦ λ e. (refl, front_to words place q (ltb-false q place e) h)
 ] refl

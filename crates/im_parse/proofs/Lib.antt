@@ -2,4 +2,4 @@ pub mod ExternalLines
 pub mod UnitLines
 pub mod Parsing
 pub mod Cut
-pub mod Linked
+pub mod Runs

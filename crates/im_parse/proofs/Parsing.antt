@@ -31,7 +31,7 @@ all_words source tokens words i none so = subst (AreWords source tokens) (append
 pub parsed_text : (source : List ℕ) (tokens : List Token) (words : List Word) (result : Result Tree ParseFault) → AreWords source tokens words → IsParsed words result → IsParsedText source tokens result
 parsed_text source tokens words (Ok tree) are h = (words, are, h)
 parsed_text source tokens words (Err (fault.Depth p)) are h = (words, are, h)
-parsed_text source tokens words (Err (fault.Links p)) are h = (words, are, h)
+parsed_text source tokens words (Err (fault.Dimensions p)) are h = (words, are, h)
 parsed_text source tokens words (Err (fault.Syntax p)) are h = (words, are, h)
 parsed_text source tokens words (Err fault.Memory) are h = tt
 

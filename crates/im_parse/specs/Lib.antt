@@ -1,4 +1,4 @@
 pub mod Externals
-pub mod Links
-pub mod LinkLevels
+pub mod Dimensions
+pub mod DimensionRuns
 pub mod Spelling

@@ -1,12 +1,12 @@
 ghost use Rattle.std.specs.Prelude.{◌≡◌, ◌^◌, ◌<◌, IfOk, MatchResult, length, map};
 ghost use Rattle.std.specs.List.{All};
 ghost use Rattle.im_word.specs.Shown.{shown};
-ghost use Rattle.im_parse.specs.declared.text.ParseFault.TheVariants.{Links, Memory};
+ghost use Rattle.im_parse.specs.declared.text.ParseFault.TheVariants.{Dimensions, Memory};
 ghost use Rattle.im_ctree.specs.Shape.{tree_of};
 ghost use Rattle.im_ctree.specs.Units.{Spells};
 ghost use Rattle.im_parse.specs.Spelling.{AreWords, IsCutShort, IsParsed, earlier, IsParsedText, IsWithin, IsWholeFault};
 
-use super::links::first_linked;
+use super::dimensions::first_dimensioned;
 use super::units::unit;
 use im_ctree::Tree;
 use im_num::NoMemory;
@@ -20,9 +20,9 @@ use std::alloc::Global;
 pub enum ParseFault {
     /// The number of the first token whose nesting is over 200.
     Depth(u32),
-    /// The number of the first token at which links are over 512, where some unit begins with those
-    /// before it.
-    Links(u32),
+    /// The number of the first token at which dimensions are over 512, where some unit begins with
+    /// those before it.
+    Dimensions(u32),
     /// The number of the first token that no unit goes on with, which is that of the end where
     /// every token is gone on with.
     Syntax(u32),
@@ -56,8 +56,8 @@ fn words_of<'a>(
 }
 
 /// The syntax tree that the tokens of a source spell (C11 6.9), or why there is none; their nesting
-/// is looked at first, and then which comes first, links over their limit or a token that no unit
-/// goes on with. The tokens are given back before the tree grows.
+/// is looked at first, and then which comes first, dimensions over their limit or a token that no
+/// unit goes on with. The tokens are given back before the tree grows.
 pub fn parse(alloc: Global, source: &[u8], tokens: Vec<Token>) -> Result<Tree, ParseFault>
     requires { All (IsWithin source.now) tokens.items }
     ensures { IsParsedText source.now tokens.items result }
@@ -80,14 +80,14 @@ fn parsed(alloc: Global, words: &[Word]) -> Result<Tree, ParseFault>
         Ok(Some(place)) => return Err(ParseFault::Depth(place as u32)),
         Ok(None) => {}
     }
-    match first_linked(alloc, words) {
+    match first_dimensioned(alloc, words) {
         Err(_) => Err(ParseFault::Memory),
         Ok(Some(place)) => Err(cut_short(alloc, words, place)),
         Ok(None) => whole(alloc, words),
     }
 }
 
-/// The tree that words spell whose links are within their limit.
+/// The tree that words spell whose dimensions are within their limit.
 fn whole(alloc: Global, words: &[Word]) -> Result<Tree, ParseFault>
     requires { length words.now < 2 ^ 32 }
     ensures { MatchResult result (λ tree. Spells (tree_of tree) (map shown words.now))
@@ -100,16 +100,16 @@ fn whole(alloc: Global, words: &[Word]) -> Result<Tree, ParseFault>
     }
 }
 
-/// Why a text has no tree of which this word is the first with links over the limit. Those before
-/// it are parsed alone, so that a fault among them is told, which stands earlier, and no larger
-/// tree grows.
+/// Why a text has no tree of which this word is the first with dimensions over the limit. Those
+/// before it are parsed alone, so that a fault among them is told, which stands earlier, and no
+/// larger tree grows.
 fn cut_short(alloc: Global, words: &[Word], place: usize) -> ParseFault
     requires number { length words.now < 2 ^ 32 }
     requires within { place < length words.now }
     ensures { IsCutShort (map shown words.now) place result }
 {
     let stop = match unit(alloc, &words[..place]) {
-        Ok(_) => return links_at(place),
+        Ok(_) => return dimensions_at(place),
         Err(stop) => stop,
     };
     match stop {
@@ -118,14 +118,14 @@ fn cut_short(alloc: Global, words: &[Word], place: usize) -> ParseFault
     }
 }
 
-fn links_at(place: usize) -> ParseFault
+fn dimensions_at(place: usize) -> ParseFault
     requires { place < 2 ^ 32 }
-    ensures { result ≡ Links place }
+    ensures { result ≡ Dimensions place }
 {
-    ParseFault::Links(place as u32)
+    ParseFault::Dimensions(place as u32)
 }
 
-/// What stands first, a fault of syntax or links over their limit.
+/// What stands first, a fault of syntax or dimensions over their limit.
 fn earlier(fault: u32, place: usize) -> ParseFault
     requires { place < 2 ^ 32 }
     ensures { result ≡ earlier fault place }
@@ -133,6 +133,6 @@ fn earlier(fault: u32, place: usize) -> ParseFault
     if (fault as usize) < place {
         ParseFault::Syntax(fault)
     } else {
-        links_at(place)
+        dimensions_at(place)
     }
 }

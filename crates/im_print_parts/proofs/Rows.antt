@@ -5,7 +5,6 @@ use Rattle.im_tok.specs.declared.keyword.Keyword.TheVariants as key
 use Rattle.im_tok.specs.declared.punctuator.Punctuator.TheVariants as punctuator
 use Rattle.im_word.specs.Words.{Name, Word, name, keyword, mark}
 use Rattle.im_ctree.specs.declared.expression.Expression.{Expression}
-use Rattle.im_ctree.specs.declared.expression.ExpressionKind as ek
 use Rattle.im_ctree.specs.declared.specifier.Specifiers as ss
 use Rattle.im_ctree.specs.declared.specifier.SpecifierKind as sk
 use Rattle.im_ctree.specs.declared.specifier.Member as mb
@@ -23,14 +22,14 @@ use Rattle.im_ctree.specs.declared.statement.BlockItem as bi
 use Rattle.im_ctree.specs.declared.unit.External.TheVariants as ext
 use Rattle.im_ctree.specs.declared.unit.Function.{Function}
 use Rattle.im_ctree.specs.Tree as t
-use Rattle.im_ctree.specs.Shape.{expression_of, specifier_of, declaration_of, external_of, declarator_of, maybe_expression_of, parameters_of, initializer_of, maybe_initializer_of, init_declarators_of, block_items_of}
+use Rattle.im_ctree.specs.Shape.{specifier_of, declaration_of, external_of, declarator_of, maybe_expression_of, parameters_of, initializer_of, maybe_initializer_of, init_declarators_of, block_items_of}
 use Rattle.im_ctree.specs.Typedefs.{has_type_from, names_behind_items}
 use Rattle.im_print_relation.specs.Printed as printed
 use Rattle.im_print_parts.specs.Output.{each, spaced, Writes}
 use Rattle.im_print_parts.proofs.Writing.{writes_append, writes_same, written, next}
 use Rattle.im_print_parts.specs.Parts as parts
-use Rattle.im_ctree_parts.specs.Lists.{expression_in, expressions_from, list_from, maybe_from, members_from, enumerators_from, declarators_from, declarator_from, stars_in, with_suffix, suffixes_from, parameters_from, initializers_from}
-use Rattle.im_ctree_parts.proofs.Shapes.{call_tree, struct_tree, enum_tree, function_suffix, list_tree, member_shape, enumerator_shape, parameter_shape, specifiers_shape}
+use Rattle.im_ctree_parts.specs.Lists.{expressions_from, list_from, maybe_from, members_from, enumerators_from, declarators_from, declarator_from, stars_in, with_suffix, suffixes_from, parameters_from, initializers_from}
+use Rattle.im_ctree_parts.proofs.Shapes.{struct_tree, enum_tree, function_suffix, list_tree, member_shape, enumerator_shape, parameter_shape, specifiers_shape}
 
 pub split_first : {X : Type 0} (xs : List X) (x : X) → 1 ≤ length xs → x ≡ get_or xs 0 x → xs ≡ x ∷ take (length xs - 1) (drop 1 xs)
 split_first [] x some is = absurd (omega arith)
@@ -178,9 +177,6 @@ pub enum_words : (T : List Name) (at : ℕ) (tag : Option (Vec ℕ Global)) (es 
     → printed.specifier T (specifier_of at (sk.Enum tag es)) ≡ parts.tag_words key.Enum tag ++ (mark punctuator.OpenBrace ∷ (printed.enumerators T (enumerators_from es.items) ++ (mark punctuator.CloseBrace ∷ [])))
 enum_words T at None es = ap (printed.specifier T) (enum_tree at None es)
 enum_words T at (Some n) es = ap (printed.specifier T) (enum_tree at (Some n) es)
-
-pub call_words : (T : List Name) (at : ℕ) (f : Box Expression Global) (args : Vec Expression Global) → printed.expression T (expression_of at (ek.Call f args)) ≡ printed.expression T (t.call at (expression_in f.value) (expressions_from args.items))
-call_words T at f args = ap (printed.expression T) (call_tree at f args)
 
 array_tree : (at : ℕ) (e : Option (Box Expression Global)) (rest : t.Suffixes) → with_suffix at (xk.Array e) rest ≡ t.array_suffix at (maybe_from e) rest
 array_tree at None rest = refl

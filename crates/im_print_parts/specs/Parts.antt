@@ -1,8 +1,9 @@
 -- The words of one item of a list in a tree, for private contracts.
-use Rattle.std.specs.Prelude.{ℕ, Bool, true, false, List, [], ◌∷◌, ◌++◌, Option, Some, None, Box}
+use Rattle.std.specs.Prelude.{ℕ, Bool, true, false, cond, nat_lt, List, [], ◌∷◌, ◌++◌, Option, Some, None, Box}
 use Rattle.std.specs.declared.vec.Vec.{Vec}
 use Rattle.std.specs.Global.{Global}
 use Rattle.im_tok.specs.declared.keyword.Keyword.{Keyword}
+use Rattle.im_tok.specs.declared.punctuator.Punctuator.{Punctuator}
 use Rattle.im_tok.specs.declared.punctuator.Punctuator.TheVariants as punctuator
 use Rattle.im_word.specs.Words.{Name, Word, name, keyword, mark}
 use Rattle.im_ctree.specs.declared.expression.Expression.{Expression}
@@ -34,6 +35,32 @@ comma_words false = []
 abbrev pub separated : {X : Type 0} → (X → List Word) → Bool → List X → List Word
 separated words behind [] = []
 separated words behind (x ∷ xs) = (comma_words behind ++ words x) ++ separated words true xs
+
+-- an expression with an operand with which a chain goes on: an index, a call, a cast or a comma
+abbrev pub is_link : t.Expression → Bool
+is_link (t.index p a b) = true
+is_link (t.call p a bs) = true
+is_link (t.cast p n a) = true
+is_link (t.comma p a b) = true
+is_link e = false
+
+-- a parenthesis of an operand, where it stands in some
+abbrev pub parenthesis : ℕ → t.Expression → Punctuator → List Word
+parenthesis n a p = cond (nat_lt (printed.binding a) n) (mark p ∷ []) []
+
+-- what stands before that operand, and what behind it
+abbrev pub before_first : List Name → t.Expression → List Word
+before_first T (t.index p a b) = parenthesis 15 a punctuator.OpenParen
+before_first T (t.call p a bs) = parenthesis 15 a punctuator.OpenParen
+before_first T (t.cast p n a) = mark punctuator.OpenParen ∷ (printed.type_name T n ++ (mark punctuator.CloseParen ∷ parenthesis 13 a punctuator.OpenParen))
+before_first T e = []
+
+abbrev pub behind_first : List Name → t.Expression → List Word
+behind_first T (t.index p a b) = parenthesis 15 a punctuator.CloseParen ++ (mark punctuator.OpenBracket ∷ (printed.expression T b ++ (mark punctuator.CloseBracket ∷ [])))
+behind_first T (t.call p a bs) = parenthesis 15 a punctuator.CloseParen ++ (mark punctuator.OpenParen ∷ (printed.arguments T bs ++ (mark punctuator.CloseParen ∷ [])))
+behind_first T (t.cast p n a) = parenthesis 13 a punctuator.CloseParen
+behind_first T (t.comma p a b) = mark punctuator.Comma ∷ printed.at_binding 1 b (printed.expression T b)
+behind_first T e = []
 
 abbrev pub argument_words : List Name → Expression → List Word
 argument_words T e = printed.at_binding 1 (expression_in e) (printed.expression T (expression_in e))

@@ -8,6 +8,7 @@ ghost use Rattle.im_print_parts.specs.Output.{Writes, known};
 ghost use Rattle.im_print_parts.specs.Parts as parts;
 ghost use Rattle.im_ctree_parts.specs.Lists.{expression_in, expressions_from};
 
+use crate::chains::{first_operand, put_parenthesis};
 use crate::commas::put_comma_if;
 use crate::declarators::put_type_name;
 use crate::{
@@ -191,19 +192,33 @@ fn put_closed_arguments(
     Ok(())
 }
 
-/// Writes an expression (C11 6.5).
+/// Writes what stands before the operand with which a chain goes on.
 #[cycle(printing)]
-pub fn put_expression(out: &mut Vec<u8>, names: &[&[u8]], e: &Expression) -> Result<(), NoMemory>
-    ensures { OnOk result (Writes out.old.items out.new.items (printed.expression (known names.now)
-        (expression_in e.now))) }
+fn put_before_first(out: &mut Vec<u8>, names: &[&[u8]], e: &Expression) -> Result<(), NoMemory>
+    ensures { OnOk result (Writes out.old.items out.new.items
+        (parts.before_first (known names.now) (expression_in e.now))) }
 {
     match &e.kind {
-        ExpressionKind::Identifier(name) => put_name(out, name),
-        ExpressionKind::Number(number) => put_number(out, *number),
-        ExpressionKind::Character(byte) => put_character(out, *byte),
-        ExpressionKind::Text(bytes) => put_text(out, bytes),
+        ExpressionKind::Index(array, _) => put_parenthesis(out, 15, array, Punctuator::OpenParen),
+        ExpressionKind::Call(callee, _) => put_parenthesis(out, 15, callee, Punctuator::OpenParen),
+        ExpressionKind::Cast(name, operand) => {
+            put_closed_type_name(out, names, name)?;
+            put_parenthesis(out, 13, operand, Punctuator::OpenParen)?;
+            Ok(())
+        }
+        _ => Ok(()),
+    }
+}
+
+/// Writes what stands behind the operand with which a chain goes on.
+#[cycle(printing)]
+fn put_behind_first(out: &mut Vec<u8>, names: &[&[u8]], e: &Expression) -> Result<(), NoMemory>
+    ensures { OnOk result (Writes out.old.items out.new.items
+        (parts.behind_first (known names.now) (expression_in e.now))) }
+{
+    match &e.kind {
         ExpressionKind::Index(array, place) => {
-            put_at(out, names, 15, array)?;
+            put_parenthesis(out, 15, array, Punctuator::CloseParen)?;
             put_enclosed(
                 out,
                 names,
@@ -214,10 +229,51 @@ pub fn put_expression(out: &mut Vec<u8>, names: &[&[u8]], e: &Expression) -> Res
             Ok(())
         }
         ExpressionKind::Call(callee, arguments) => {
-            put_at(out, names, 15, callee)?;
+            put_parenthesis(out, 15, callee, Punctuator::CloseParen)?;
             put_closed_arguments(out, names, arguments)?;
             Ok(())
         }
+        ExpressionKind::Cast(_, operand) => {
+            put_parenthesis(out, 13, operand, Punctuator::CloseParen)
+        }
+        ExpressionKind::Comma(_, right) => put_prefixed(out, names, Punctuator::Comma, 1, right),
+        _ => Ok(()),
+    }
+}
+
+/// Writes an expression (C11 6.5). A loop goes down what is indexed, called or cast and what stands
+/// in front of a comma, and one goes up again, so that chains of them take no stack.
+#[cycle(printing)]
+pub fn put_expression(out: &mut Vec<u8>, names: &[&[u8]], e: &Expression) -> Result<(), NoMemory>
+    ensures { OnOk result (Writes out.old.items out.new.items (printed.expression (known names.now)
+        (expression_in e.now))) }
+{
+    let mut links = Vec::new(*out.allocator());
+    let mut rest = e;
+    while let Some(first) = first_operand(rest) {
+        put_before_first(out, names, rest)?;
+        links.push(rest)?;
+        rest = first;
+    }
+    put_form(out, names, rest)?;
+    while let Some(link) = links.pop() {
+        put_behind_first(out, names, link)?;
+    }
+    Ok(())
+}
+
+/// Writes an expression with which a chain ends.
+#[cycle(printing)]
+fn put_form(out: &mut Vec<u8>, names: &[&[u8]], e: &Expression) -> Result<(), NoMemory>
+    requires ends { parts.is_link (expression_in e.now) ≡ false }
+    ensures { OnOk result (Writes out.old.items out.new.items (printed.expression (known names.now)
+        (expression_in e.now))) }
+{
+    match &e.kind {
+        ExpressionKind::Identifier(name) => put_name(out, name),
+        ExpressionKind::Number(number) => put_number(out, *number),
+        ExpressionKind::Character(byte) => put_character(out, *byte),
+        ExpressionKind::Text(bytes) => put_text(out, bytes),
         ExpressionKind::Member(whole, member) => {
             put_member(out, names, whole, Punctuator::Dot, member)
         }
@@ -233,11 +289,6 @@ pub fn put_expression(out: &mut Vec<u8>, names: &[&[u8]], e: &Expression) -> Res
         }
         ExpressionKind::SizeOfExpression(operand) => put_size(out, names, operand),
         ExpressionKind::SizeOfType(name) => put_size_of_type(out, names, name),
-        ExpressionKind::Cast(name, operand) => {
-            put_closed_type_name(out, names, name)?;
-            put_at(out, names, 13, operand)?;
-            Ok(())
-        }
         ExpressionKind::Binary(op, left, right) => {
             put_at(out, names, left_level(*op), left)?;
             put_prefixed(out, names, operator_mark(*op), right_level(*op), right)?;
@@ -254,10 +305,9 @@ pub fn put_expression(out: &mut Vec<u8>, names: &[&[u8]], e: &Expression) -> Res
             put_prefixed(out, names, assign_mark(*op), 1, right)?;
             Ok(())
         }
-        ExpressionKind::Comma(left, right) => {
-            put_expression(out, names, left)?;
-            put_prefixed(out, names, Punctuator::Comma, 1, right)?;
-            Ok(())
-        }
+        ExpressionKind::Index(_, _)
+        | ExpressionKind::Call(_, _)
+        | ExpressionKind::Cast(_, _)
+        | ExpressionKind::Comma(_, _) => unreachable!(),
     }
 }

@@ -1,6 +1,7 @@
 //! From words, expressions, declarators and specifiers to their text.
 #![tactic(auto)]
 
+mod chains;
 mod commas;
 mod declarators;
 mod expressions;

@@ -23,7 +23,7 @@ fn line_text(why: LineFault) -> &'static str {
         LineFault::BadDirective => " bad directive",
         LineFault::Syntax => " syntax",
         LineFault::Nesting => " nesting",
-        LineFault::Links => " links",
+        LineFault::Dimensions => " dimensions",
         LineFault::Rule(_) => " rule",
     }
 }

@@ -30,7 +30,7 @@ fn source_fault_of(why: &str, number: u32, line: u32) -> Option<SourceFault> {
         "Derivations" => limit(Quantity::Derivations, number),
         "Syntax" => in_line(line, LineFault::Syntax),
         "Nesting" => in_line(line, LineFault::Nesting),
-        "Links" => in_line(line, LineFault::Links),
+        "Dimensions" => in_line(line, LineFault::Dimensions),
         "Rule" => in_line(line, LineFault::Rule(number)),
         _ => None,
     }

@@ -1,4 +1,4 @@
-use Rattle.std.proofs.Common.{◌≡◌, ◌+◌, true, refl, sym, ap, subst, ◌∙◌}
+use Rattle.std.proofs.Common.{arith, ◌≡◌, ◌+◌, true, refl, sym, ap, subst, ◌∙◌}
 use Rattle.std.proofs.lemmas.Result.{err_from_is_err_and}
 use Rattle.im_ctree.specs.declared.declarator.Declarator.{out-Declarator}
 use Rattle.im_ctree.specs.declared.declarator.SuffixKind as xk
@@ -20,103 +20,52 @@ use Rattle.im_check_expression_parts.proofs.Arguments.{next, last, terms_none, t
 use Rattle.im_check_expression_parts.proofs.SuffixesBehind.{open_given, length_given, function_given, given_none, given_more, given_fault, given_all}
 use Rattle.im_check_expression_parts.proofs.ParametersBehind.{parameters_none, parameters_more, parameters_fault, parameters_all, stays_inside}
 use Rattle.im_check_expression_parts.proofs.Declared.{name_unspecified, name_undeclared, name_done, none_declared, some_declared, absent_declared, name_declared, inner_declared, stars_fault, suffixes_fault, suffixed_fault, core_fault, suffixed_before, declarator_done, parameters_done, parameters_broken, parameter_unspecified, parameter_undeclared, parameter_made, inside_here}
-use Rattle.im_check_expression_parts.proofs.Forms.{name, number, character, member, arrow, post_step, pre_step, unary, size, type_size, index, cast, binary, assign, comma, conditional, second_fault, third_fault, call, call_fault, callee_fault, arguments_fault, uncalled}
+use Rattle.im_check_expression_parts.proofs.Forms.{name, number, character, member, arrow, post_step, pre_step, unary, size, type_size, index, binary, assign, comma, conditional, second_fault, third_fault, call, call_fault, arguments_fault, uncalled}
+use Rattle.im_check_expressions.proofs.Chains.{named_callee, unnamed_callee, read_first, token_is, cast_linked, named_none, link_down, link_up, outer_fault, whole_typed}
 use Rattle.im_check_expressions.proofs.+walk.Goals as goal
 
-pub expressions::expression-returns-in-Identifier : goal.expressions::expression-returns-in-Identifier
-expressions::expression-returns-in-Identifier t c =
+pub expressions::ending-returns-in-Identifier : goal.expressions::ending-returns-in-Identifier
+expressions::ending-returns-in-Identifier t c =
     rw c.in-Identifier.is (name c.args.place.now _ _ _ (rw c.deref.ensures.value at (c.name_term.ensures c.args.place.now.structs c.args.place.now.next_string)))
 
-pub expressions::expression-returns-in-Number : goal.expressions::expression-returns-in-Number
-expressions::expression-returns-in-Number t c =
+pub expressions::ending-returns-in-Number : goal.expressions::ending-returns-in-Number
+expressions::ending-returns-in-Number t c =
     rw c.in-Number.is (number c.args.place.now _ _ _ (c.number_term.ensures c.args.place.now.structs))
 
-pub expressions::expression-returns-in-Character : goal.expressions::expression-returns-in-Character
-expressions::expression-returns-in-Character t c =
+pub expressions::ending-returns-in-Character : goal.expressions::ending-returns-in-Character
+expressions::ending-returns-in-Character t c =
     rw c.in-Character.is (character c.args.place.now _ _ _ (c.character_term.ensures c.args.place.now.structs))
 
-pub expressions::expression-returns-in-Text : goal.expressions::expression-returns-in-Text
-expressions::expression-returns-in-Text t c =
+pub expressions::ending-returns-in-Text : goal.expressions::ending-returns-in-Text
+expressions::ending-returns-in-Text t c =
     rw c.in-Text.is (rw c.deref-in-Text.ensures.value at (c.text.ensures c.args.e.now.at))
-
-pub operands::subscript-returns-in_err-x : goal.operands::subscript-returns-in_err-x
-operands::subscript-returns-in_err-x t c =
-    let p = err_from_is_err_and c.from_residual.result c.from_residual.ensures.1 in
-    rw (p.1, p.2, c.in-Index.is) (fault_of b.indexed _ (rw c.deref.ensures at c.in_err-x.ensures))
-
-pub operands::subscript-returns-in_err-y : goal.operands::subscript-returns-in_err-y
-operands::subscript-returns-in_err-y t c =
-    let p = err_from_is_err_and c.from_residual-in_err-y.result c.from_residual-in_err-y.ensures.1 in
-    rw (p.1, p.2, c.in-Index.is) (second_fault c.args.place.now (strings_in (expression_in c.in-Index.whole.value)) b.subscript (rw c.deref.ensures at c.in_ok-x.ensures).1 _ (rw c.deref-2.ensures at c.in_err-y.ensures))
-
-pub operands::subscript-returns : goal.operands::subscript-returns
-operands::subscript-returns t c =
-    rw c.in-Index.is (index c.args.place.now _ c.in_ok-x.x c.in_ok-y.y c.index_term.result (rw c.deref.ensures at c.in_ok-x.ensures) (rw c.deref-2.ensures at c.in_ok-y.ensures) c.table.ensures c.index_term.ensures)
 
 pub operands::call-returns-in_err-xs : goal.operands::call-returns-in_err-xs
 operands::call-returns-in_err-xs t c =
     let p = err_from_is_err_and c.from_residual.result c.from_residual.ensures.1 in
-    rw (p.1, p.2, (ap (expression_of c.args.e.now.at) c.in-Call.is ∙ call_tree c.args.e.now.at c.in-Call.callee c.in-Call.arguments)) (call_fault c.args.place.now _ _ _ _ (rw c.deref.ensures at (sym c.names_function.ensures ∙ c.if-names_function.true)) (rw c.deref-then-names_function.ensures.value at c.in_err-xs.ensures))
+    let tree = ap (expression_of c.args.e.now.at) c.in-Call.is ∙ call_tree c.args.e.now.at c.in-Call.callee c.in-Call.arguments in
+    rw (p.1, p.2, tree) (call_fault c.args.place.now _ _ _ _ (named_callee _ _ _ _ _ tree c.requires.ends) (rw c.deref.ensures.value at c.in_err-xs.ensures))
 
 pub operands::call-called-requires : goal.operands::call-called-requires
 operands::call-called-requires t c =
     let f = expression_in c.in-Call.callee.value in
-    let named = rw c.deref.ensures at (sym c.names_function.ensures ∙ c.if-names_function.true) in
-    rw c.deref-then-names_function-2.ensures (subst (λ (p : Place). is_function_meant (callee_of (scopes_of p.scope) f) ≡ true) (sym c.in_ok-xs.ensures.1) named)
+    let tree = ap (expression_of c.args.e.now.at) c.in-Call.is ∙ call_tree c.args.e.now.at c.in-Call.callee c.in-Call.arguments in
+    let named = named_callee _ _ _ _ _ tree c.requires.ends in
+    rw c.deref-2.ensures (subst (λ (p : Place). is_function_meant (callee_of (scopes_of p.scope) f) ≡ true) (sym c.in_ok-xs.ensures.1) named)
 
-pub operands::call-returns-in_ok-xs : goal.operands::call-returns-in_ok-xs
-operands::call-returns-in_ok-xs t c =
-    rw (ap (expression_of c.args.e.now.at) c.in-Call.is ∙ call_tree c.args.e.now.at c.in-Call.callee c.in-Call.arguments) (call c.args.place.now _ _ _ c.in_ok-xs.xs.items c.called.result (rw c.deref.ensures at (sym c.names_function.ensures ∙ c.if-names_function.true)) (rw c.deref-then-names_function.ensures.value at c.in_ok-xs.ensures) (rw c.deref-then-names_function-2.ensures at c.called.ensures))
-
-pub operands::call-returns-in_err-x : goal.operands::call-returns-in_err-x
-operands::call-returns-in_err-x t c =
-    let p = err_from_is_err_and c.from_residual-in_err-x.result c.from_residual-in_err-x.ensures.1 in
-    rw (p.1, p.2, (ap (expression_of c.args.e.now.at) c.in-Call.is ∙ call_tree c.args.e.now.at c.in-Call.callee c.in-Call.arguments)) (callee_fault c.args.place.now _ _ _ _ (rw c.deref.ensures at (sym c.names_function.ensures ∙ c.if-names_function.false)) (rw c.deref-else-names_function.ensures at c.in_err-x.ensures))
-
-pub operands::call-returns-in_err-xs-2 : goal.operands::call-returns-in_err-xs-2
-operands::call-returns-in_err-xs-2 t c =
-    let p = err_from_is_err_and c.from_residual-in_err-xs-2.result c.from_residual-in_err-xs-2.ensures.1 in
-    rw (p.1, p.2, (ap (expression_of c.args.e.now.at) c.in-Call.is ∙ call_tree c.args.e.now.at c.in-Call.callee c.in-Call.arguments)) (arguments_fault c.args.place.now _ _ _ _ (rw c.deref-else-names_function.ensures at c.in_ok-x.ensures).1 (rw c.deref-else-names_function-2.ensures.value at c.in_err-xs-2.ensures))
-
-pub operands::call-returns-in_ok-xs-2 : goal.operands::call-returns-in_ok-xs-2
-operands::call-returns-in_ok-xs-2 t c =
-    rw (c.not_called.ensures, (ap (expression_of c.args.e.now.at) c.in-Call.is ∙ call_tree c.args.e.now.at c.in-Call.callee c.in-Call.arguments)) (uncalled c.args.place.now _ _ _ c.in_ok-x.x c.in_ok-xs-2.xs.items (rw c.deref.ensures at (sym c.names_function.ensures ∙ c.if-names_function.false)) (rw c.deref-else-names_function.ensures at c.in_ok-x.ensures) (rw c.deref-else-names_function-2.ensures.value at c.in_ok-xs-2.ensures))
-
-pub operands::member-returns-in_err-x-in-Member : goal.operands::member-returns-in_err-x-in-Member
-operands::member-returns-in_err-x-in-Member t c =
-    let p = err_from_is_err_and c.from_residual.result c.from_residual.ensures.1 in
-    rw (p.1, p.2, c.in-Member.is) (fault_of b.whole _ (rw c.deref.ensures at c.in_err-x-in-Member.ensures))
-
-pub operands::member-returns-in_ok-x-in-Member : goal.operands::member-returns-in_ok-x-in-Member
-operands::member-returns-in_ok-x-in-Member t c =
-    rw c.in-Member.is (member c.args.place.now _ _ c.in_ok-x-in-Member.x c.dotted.result (rw c.deref.ensures at c.in_ok-x-in-Member.ensures) c.table.ensures (rw c.deref-in-Member.ensures.value at c.dotted.ensures))
-
-pub operands::member-returns-in_err-x-in-Arrow : goal.operands::member-returns-in_err-x-in-Arrow
-operands::member-returns-in_err-x-in-Arrow t c =
-    let p = err_from_is_err_and c.from_residual-in_err-x-in-Arrow.result c.from_residual-in_err-x-in-Arrow.ensures.1 in
-    rw (p.1, p.2, c.in-Arrow.is) (fault_of b.pointer_to_whole _ (rw c.deref-in-Arrow.ensures at c.in_err-x-in-Arrow.ensures))
-
-pub operands::member-returns-in_ok-x-in-Arrow : goal.operands::member-returns-in_ok-x-in-Arrow
-operands::member-returns-in_ok-x-in-Arrow t c =
-    rw c.in-Arrow.is (arrow c.args.place.now _ _ c.in_ok-x-in-Arrow.x c.arrowed.result (rw c.deref-in-Arrow.ensures at c.in_ok-x-in-Arrow.ensures) c.table-in-Arrow.ensures (rw c.deref-in-Arrow-2.ensures.value at c.arrowed.ensures))
-
-pub operands::unary-returns-in_err-x-in-PostStep : goal.operands::unary-returns-in_err-x-in-PostStep
-operands::unary-returns-in_err-x-in-PostStep t c =
-    let p = err_from_is_err_and c.from_residual.result c.from_residual.ensures.1 in
-    rw (p.1, p.2, c.in-PostStep.is) (fault_of b.post_stepped _ (rw c.deref.ensures at c.in_err-x-in-PostStep.ensures))
-
-pub operands::unary-returns-in_ok-x-in-PostStep : goal.operands::unary-returns-in_ok-x-in-PostStep
-operands::unary-returns-in_ok-x-in-PostStep t c =
-    rw c.in-PostStep.is (post_step c.args.place.now _ _ c.in_ok-x-in-PostStep.x c.step_term.result (rw c.deref.ensures at c.in_ok-x-in-PostStep.ensures) c.table.ensures c.step_term.ensures)
+pub operands::call-returns : goal.operands::call-returns
+operands::call-returns t c =
+    let tree = ap (expression_of c.args.e.now.at) c.in-Call.is ∙ call_tree c.args.e.now.at c.in-Call.callee c.in-Call.arguments in
+    rw tree (call c.args.place.now _ _ _ c.in_ok-xs.xs.items c.called.result (named_callee _ _ _ _ _ tree c.requires.ends) (rw c.deref.ensures.value at c.in_ok-xs.ensures) (rw c.deref-2.ensures at c.called.ensures))
 
 pub operands::unary-returns-in_err-x-in-PreStep : goal.operands::unary-returns-in_err-x-in-PreStep
 operands::unary-returns-in_err-x-in-PreStep t c =
-    let p = err_from_is_err_and c.from_residual-in_err-x-in-PreStep.result c.from_residual-in_err-x-in-PreStep.ensures.1 in
-    rw (p.1, p.2, c.in-PreStep.is) (fault_of b.pre_stepped _ (rw c.deref-in-PreStep.ensures at c.in_err-x-in-PreStep.ensures))
+    let p = err_from_is_err_and c.from_residual.result c.from_residual.ensures.1 in
+    rw (p.1, p.2, c.in-PreStep.is) (fault_of b.pre_stepped _ (rw c.deref.ensures at c.in_err-x-in-PreStep.ensures))
 
 pub operands::unary-returns-in_ok-x-in-PreStep : goal.operands::unary-returns-in_ok-x-in-PreStep
 operands::unary-returns-in_ok-x-in-PreStep t c =
-    rw c.in-PreStep.is (pre_step c.args.place.now _ _ c.in_ok-x-in-PreStep.x c.step_term-in-PreStep.result (rw c.deref-in-PreStep.ensures at c.in_ok-x-in-PreStep.ensures) c.table-in-PreStep.ensures c.step_term-in-PreStep.ensures)
+    rw c.in-PreStep.is (pre_step c.args.place.now _ _ c.in_ok-x-in-PreStep.x c.step_term.result (rw c.deref.ensures at c.in_ok-x-in-PreStep.ensures) c.table.ensures c.step_term.ensures)
 
 pub operands::unary-returns-in_err-x-in-Unary : goal.operands::unary-returns-in_err-x-in-Unary
 operands::unary-returns-in_err-x-in-Unary t c =
@@ -144,20 +93,6 @@ operands::unary-returns-in_err-q-in-SizeOfType t c =
 pub operands::unary-returns-in_ok-q-in-SizeOfType : goal.operands::unary-returns-in_ok-q-in-SizeOfType
 operands::unary-returns-in_ok-q-in-SizeOfType t c =
     rw c.in-SizeOfType.is (type_size c.args.place.now _ c.in_ok-q-in-SizeOfType.q c.size_term-in-SizeOfType.result (rw c.deref-in-SizeOfType.ensures at c.in_ok-q-in-SizeOfType.ensures) c.table-in-SizeOfType.ensures c.size_term-in-SizeOfType.ensures)
-
-pub operands::cast-returns-in_err-q : goal.operands::cast-returns-in_err-q
-operands::cast-returns-in_err-q t c =
-    let p = err_from_is_err_and c.from_residual.result c.from_residual.ensures.1 in
-    rw (p.1, p.2, c.in-Cast.is) (fault_of b.cast_type _ (rw c.deref.ensures at c.in_err-q.ensures))
-
-pub operands::cast-returns-in_err-x : goal.operands::cast-returns-in_err-x
-operands::cast-returns-in_err-x t c =
-    let p = err_from_is_err_and c.from_residual-in_err-x.result c.from_residual-in_err-x.ensures.1 in
-    rw (p.1, p.2, c.in-Cast.is) (second_fault c.args.place.now (strings_named (type_name_of c.in-Cast.name.value)) b.cast_operand (rw c.deref.ensures at c.in_ok-q.ensures).1 _ (rw c.deref-2.ensures at c.in_err-x.ensures))
-
-pub operands::cast-returns : goal.operands::cast-returns
-operands::cast-returns t c =
-    rw c.in-Cast.is (cast c.args.place.now _ c.in_ok-q.q c.in_ok-x.x c.cast_term.result (rw c.deref.ensures at c.in_ok-q.ensures) (rw c.deref-2.ensures at c.in_ok-x.ensures) c.table.ensures c.cast_term.ensures)
 
 pub operands::operation-returns-in_err-x-in-Binary : goal.operands::operation-returns-in_err-x-in-Binary
 operands::operation-returns-in_err-x-in-Binary t c =
@@ -206,19 +141,136 @@ pub operands::operation-returns-in_ok-y-in-Assign : goal.operands::operation-ret
 operands::operation-returns-in_ok-y-in-Assign t c =
     rw c.in-Assign.is (assign c.args.place.now _ _ c.in_ok-x-in-Assign.x c.in_ok-y-in-Assign.y c.assign_term.result (rw c.deref-in-Assign.ensures at c.in_ok-x-in-Assign.ensures) (rw c.deref-in-Assign-2.ensures at c.in_ok-y-in-Assign.ensures) c.table-in-Assign.ensures c.assign_term.ensures)
 
-pub operands::comma-returns-in_err-x : goal.operands::comma-returns-in_err-x
-operands::comma-returns-in_err-x t c =
+pub links::linked-continued-requires : goal.links::linked-continued-requires
+links::linked-continued-requires t c =
+    (c.requires.0, c.requires.1, c.requires.2, rw c.in-None.is at c.requires.3)
+
+pub links::linked-returns-in-Some : goal.links::linked-returns-in-Some
+links::linked-returns-in-Some t c =
+    λ p q f h typed. cast_linked p q (expression_in c.args.whole.now) f c.in-Some.q c.args.whole.now.at c.args.x c.cast_term.result (rw c.in-Some.is at h) typed c.table.ensures (token_is c.args.whole.now.at c.args.whole.now.kind) c.cast_term.ensures
+
+pub links::linked-returns-in-None : goal.links::linked-returns-in-None
+links::linked-returns-in-None t c =
+    λ p q f h typed. c.continued.ensures p q f (rw c.in-None.is at h) typed
+
+pub links::named_type-returns-in_err-q-in-Cast : goal.links::named_type-returns-in_err-q-in-Cast
+links::named_type-returns-in_err-q-in-Cast t c =
     let p = err_from_is_err_and c.from_residual.result c.from_residual.ensures.1 in
-    rw (p.1, p.2, c.in-Comma.is) (fault_of b.before_comma _ (rw c.deref.ensures at c.in_err-x.ensures))
+    rw (p.1, p.2, c.in-Cast.is) (fault_of b.cast_type _ (rw c.deref.ensures at c.in_err-q-in-Cast.ensures))
 
-pub operands::comma-returns-in_err-y : goal.operands::comma-returns-in_err-y
-operands::comma-returns-in_err-y t c =
-    let p = err_from_is_err_and c.from_residual-in_err-y.result c.from_residual-in_err-y.ensures.1 in
-    rw (p.1, p.2, c.in-Comma.is) (second_fault c.args.place.now (strings_in (expression_in c.in-Comma.left.value)) b.behind_comma (rw c.deref.ensures at c.in_ok-x.ensures).1 _ (rw c.deref-2.ensures at c.in_err-y.ensures))
+pub links::named_type-returns-in_ok-q-in-Cast : goal.links::named_type-returns-in_ok-q-in-Cast
+links::named_type-returns-in_ok-q-in-Cast t c =
+    rw c.in-Cast.is (rw c.deref.ensures at c.in_ok-q-in-Cast.ensures)
 
-pub operands::comma-returns : goal.operands::comma-returns
-operands::comma-returns t c =
-    rw c.in-Comma.is (comma c.args.place.now _ c.in_ok-x.x c.in_ok-y.y _ (rw c.deref.ensures at c.in_ok-x.ensures) (rw c.deref-2.ensures at c.in_ok-y.ensures) c.table.ensures c.in_ok-comma_term.ensures)
+pub links::named_type-returns-in_default : goal.links::named_type-returns-in_default
+links::named_type-returns-in_default t c =
+    named_none c.args.place.now c.args.e.now.at c.args.e.now.kind c.in_default.not-Cast
+
+pub expressions::expression-loop-first-init : goal.expressions::expression-loop-first-init
+expressions::expression-loop-first-init t c =
+    (rw c.new-links.ensures.items (refl, refl), omega arith)
+
+pub expressions::expression-loop-first-preserved : goal.expressions::expression-loop-first-preserved
+expressions::expression-loop-first-preserved t c =
+    let linked = record { first = c.in-Some.ensures.first; type_named = c.in_ok-named.ensures } in
+    (link_down _ _ _ _ _ _ _ _ _ _ c.in_ok-push.ensures.items refl c.loop-first.invariant.0 linked c.loop-first.invariant.1, omega (arith, c.in-Some.ensures.below, c.loop-first.invariant.1))
+
+pub expressions::expression-returns-in_err-named : goal.expressions::expression-returns-in_err-named
+expressions::expression-returns-in_err-named t c =
+    let p = err_from_is_err_and c.from_residual.result c.from_residual.ensures.1 in
+    rw (p.1, p.2) (outer_fault _ _ _ _ _ _ _ c.loop-first.invariant.0 c.in_err-named.ensures)
+
+pub expressions::expression-returns-in_err-x : goal.expressions::expression-returns-in_err-x
+expressions::expression-returns-in_err-x t c =
+    let p = err_from_is_err_and c.from_residual-in_err-x.result c.from_residual-in_err-x.ensures.1 in
+    rw (p.1, p.2) (outer_fault _ _ _ _ _ _ _ c.loop-first.invariant.0 c.in_err-x.ensures)
+
+pub expressions::expression-loop-whole-init : goal.expressions::expression-loop-whole-init
+expressions::expression-loop-whole-init t c =
+    record { place = _; operand = _; outer = c.loop-first.invariant.0; typed = c.in_ok-x.ensures }
+
+pub links::continued-returns-in_err-y-in-Index : goal.links::continued-returns-in_err-y-in-Index
+links::continued-returns-in_err-y-in-Index t c =
+    let p = err_from_is_err_and c.from_residual.result c.from_residual.ensures.1 in
+    rw (p.1, p.2) (λ s q f h typed.
+    let read = read_first s q _ _ f c.args.x (rw c.in-Index.is at h.first) (rw c.in-Index.is at h.type_named) typed in
+    rw c.in-Index.is (second_fault s (strings_in (expression_in c.in-Index.field-0.value)) b.subscript read.1 _ (rw c.deref.ensures at c.in_err-y-in-Index.ensures)))
+
+pub links::continued-returns-in_ok-y-in-Index : goal.links::continued-returns-in_ok-y-in-Index
+links::continued-returns-in_ok-y-in-Index t c =
+    λ s q f h typed.
+    let read = read_first s q _ _ f c.args.x (rw c.in-Index.is at h.first) (rw c.in-Index.is at h.type_named) typed in
+    rw c.in-Index.is (index s _ c.args.x c.in_ok-y-in-Index.y c.index_term.result read (rw c.deref.ensures at c.in_ok-y-in-Index.ensures) c.table.ensures c.index_term.ensures)
+
+pub links::continued-returns-in_err-xs-in-Call : goal.links::continued-returns-in_err-xs-in-Call
+links::continued-returns-in_err-xs-in-Call t c =
+    let p = err_from_is_err_and c.from_residual-in_err-xs-in-Call.result c.from_residual-in_err-xs-in-Call.ensures.1 in
+    let tree = ap (expression_of c.args.whole.now.at) c.in-Call.is ∙ call_tree c.args.whole.now.at c.in-Call.field-0 c.in-Call.arguments in
+    rw (p.1, p.2) (λ s q f h typed.
+    let called = unnamed_callee _ _ _ _ _ (rw tree at h.first) in
+    let read = read_first s q _ _ f c.args.x called.1 (rw tree at h.type_named) typed in
+    rw tree (arguments_fault s _ _ _ _ read.1 (rw c.deref-in-Call.ensures.value at c.in_err-xs-in-Call.ensures)))
+
+pub links::continued-returns-in_ok-xs-in-Call : goal.links::continued-returns-in_ok-xs-in-Call
+links::continued-returns-in_ok-xs-in-Call t c =
+    let tree = ap (expression_of c.args.whole.now.at) c.in-Call.is ∙ call_tree c.args.whole.now.at c.in-Call.field-0 c.in-Call.arguments in
+    rw c.not_called.ensures (λ s q f h typed.
+    let called = unnamed_callee _ _ _ _ _ (rw tree at h.first) in
+    let read = read_first s q _ _ f c.args.x called.1 (rw tree at h.type_named) typed in
+    rw tree (uncalled s _ _ _ c.args.x c.in_ok-xs-in-Call.xs.items called.0 read (rw c.deref-in-Call.ensures.value at c.in_ok-xs-in-Call.ensures)))
+
+pub links::continued-returns-in-Member : goal.links::continued-returns-in-Member
+links::continued-returns-in-Member t c =
+    λ s q f h typed.
+    let read = read_first s q _ _ f c.args.x (rw c.in-Member.is at h.first) (rw c.in-Member.is at h.type_named) typed in
+    rw c.in-Member.is (member s _ _ c.args.x c.dotted.result read c.table-in-Member.ensures (rw c.deref-in-Member.ensures.value at c.dotted.ensures))
+
+pub links::continued-returns-in-Arrow : goal.links::continued-returns-in-Arrow
+links::continued-returns-in-Arrow t c =
+    λ s q f h typed.
+    let read = read_first s q _ _ f c.args.x (rw c.in-Arrow.is at h.first) (rw c.in-Arrow.is at h.type_named) typed in
+    rw c.in-Arrow.is (arrow s _ _ c.args.x c.arrowed.result read c.table-in-Arrow.ensures (rw c.deref-in-Arrow.ensures.value at c.arrowed.ensures))
+
+pub links::continued-returns-in-PostStep : goal.links::continued-returns-in-PostStep
+links::continued-returns-in-PostStep t c =
+    λ s q f h typed.
+    let read = read_first s q _ _ f c.args.x (rw c.in-PostStep.is at h.first) (rw c.in-PostStep.is at h.type_named) typed in
+    rw c.in-PostStep.is (post_step s _ _ c.args.x c.step_term.result read c.table-in-PostStep.ensures c.step_term.ensures)
+
+pub links::continued-returns-in_err-y-in-Comma : goal.links::continued-returns-in_err-y-in-Comma
+links::continued-returns-in_err-y-in-Comma t c =
+    let p = err_from_is_err_and c.from_residual-in_err-y-in-Comma.result c.from_residual-in_err-y-in-Comma.ensures.1 in
+    rw (p.1, p.2) (λ s q f h typed.
+    let read = read_first s q _ _ f c.args.x (rw c.in-Comma.is at h.first) (rw c.in-Comma.is at h.type_named) typed in
+    rw c.in-Comma.is (second_fault s (strings_in (expression_in c.in-Comma.field-0.value)) b.behind_comma read.1 _ (rw c.deref-in-Comma.ensures at c.in_err-y-in-Comma.ensures)))
+
+pub links::continued-returns-in_ok-comma_term-in-Comma : goal.links::continued-returns-in_ok-comma_term-in-Comma
+links::continued-returns-in_ok-comma_term-in-Comma t c =
+    λ s q f h typed.
+    let read = read_first s q _ _ f c.args.x (rw c.in-Comma.is at h.first) (rw c.in-Comma.is at h.type_named) typed in
+    rw c.in-Comma.is (comma s _ c.args.x c.in_ok-y-in-Comma.y _ read (rw c.deref-in-Comma.ensures at c.in_ok-y-in-Comma.ensures) c.table-in-Comma.ensures c.in_ok-comma_term-in-Comma.ensures)
+
+pub expressions::expression-linked-requires : goal.expressions::expression-linked-requires
+expressions::expression-linked-requires t c =
+    let up = link_up _ _ _ _ _ _ _ _ c.in-Some-pop.ensures.items c.loop-whole.invariant.outer in
+    (up.place, c.loop-whole.invariant.place, c.loop-whole.invariant.operand, up.linked)
+
+pub expressions::expression-loop-whole-preserved : goal.expressions::expression-loop-whole-preserved
+expressions::expression-loop-whole-preserved t c =
+    let at = c.loop-whole.invariant in
+    let up = link_up _ _ _ _ _ _ _ _ c.in-Some-pop.ensures.items at.outer in
+    record { place = up.place; operand = _; outer = up.outer; typed = c.in_ok-linked.ensures _ _ _ up.linked at.typed }
+
+pub expressions::expression-returns-in_err-linked : goal.expressions::expression-returns-in_err-linked
+expressions::expression-returns-in_err-linked t c =
+    let p = err_from_is_err_and c.from_residual-in_err-linked.result c.from_residual-in_err-linked.ensures.1 in
+    let at = c.loop-whole.invariant in
+    let up = link_up _ _ _ _ _ _ _ _ c.in-Some-pop.ensures.items at.outer in
+    rw (p.1, p.2) (outer_fault _ _ _ _ _ _ _ up.outer (c.in_err-linked.ensures _ _ _ up.linked at.typed))
+
+pub expressions::expression-returns : goal.expressions::expression-returns
+expressions::expression-returns t c =
+    whole_typed _ _ _ _ _ _ c.in-None.ensures.items c.loop-whole.invariant
 
 pub expressions::terms-loop-argument-init : goal.expressions::terms-loop-argument-init
 expressions::terms-loop-argument-init t c =

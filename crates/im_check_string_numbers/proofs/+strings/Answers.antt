@@ -1,4 +1,4 @@
-use Rattle.std.proofs.Common.{◌≡◌, ◌+◌, length, IfOk, ap, subst, sym, ◌∙◌}
+use Rattle.std.proofs.Common.{◌≡◌, ◌+◌, ◌++◌, length, IfOk, ap, subst, sym, ◌∙◌, arith}
 use Rattle.im_ctree.specs.Tree as tree
 use Rattle.im_ctree.specs.Shape.{declarator_of, core_of, type_name_of, expression_of, specifier_of}
 use Rattle.im_ctree.specs.declared.declarator.Declarator.{out-Declarator}
@@ -8,7 +8,8 @@ use Rattle.im_ctree.specs.declared.specifier.Member.{out-Member}
 use Rattle.im_rules.specs.Strings as s
 use Rattle.im_ctree_parts.specs.Lists.{expression_in, expressions_from, specifiers_in, with_member, declarators_from, declarator_from, suffixes_from, with_suffix, parameters_from, with_parameter}
 use Rattle.im_ctree_parts.proofs.Shapes.{call_tree, struct_tree, enum_tree, function_suffix}
-use Rattle.im_check_string_numbers.proofs.Counted.{joined, passing, both_passing, in_member, in_declarator, in_parameter, in_type_name}
+use Rattle.im_check_string_numbers.specs.Chains.{before_first, behind_first}
+use Rattle.im_check_string_numbers.proofs.Counted.{joined, others_counted, passing, both_passing, in_member, in_declarator, in_parameter, in_type_name}
 use Rattle.im_check_string_numbers.proofs.+strings.Goals as goal
 
 pub declarator::behind_declarator-returns : goal.declarator::behind_declarator-returns
@@ -35,8 +36,24 @@ declarator::behind_suffix-returns-in-Function t c =
     let told = λ (rest : tree.Suffixes). ap s.strings_of_suffixes (ap (λ k. with_suffix at k rest) c.in-Function.is ∙ function_suffix at ps rest) in
     passing c.behind_parameters.result c.args.next (s.strings_of_parameters (parameters_from ps.items)) (λ rest. s.strings_of_suffixes (with_suffix at c.args.suffix.now.kind rest)) s.strings_of_suffixes told behind
 
-pub expression::behind_expression-returns-in_ok-inner-in-Call : goal.expression::behind_expression-returns-in_ok-inner-in-Call
-expression::behind_expression-returns-in_ok-inner-in-Call t c =
+pub expression::behind_expression-loop-first-preserved : goal.expression::behind_expression-loop-first-preserved
+expression::behind_expression-loop-first-preserved t c =
+    let whole = expression_in c.loop-first.rest.now in
+    let first = c.in-Some.first.now in
+    let all = c.args.next + length (s.strings_in (expression_in c.args.e.now)) in
+    let left = others_counted c.loop-first.done c.in_ok-done.done all (before_first whole) (s.strings_in (expression_in first)) (behind_first whole) (s.strings_in whole) c.in-Some.ensures.chain c.in_ok-done.ensures c.loop-first.invariant.0 in
+    (left, omega (arith, c.in-Some.ensures.below, c.loop-first.invariant.1))
+
+pub expression::behind_others-returns-in-Call : goal.expression::behind_others-returns-in-Call
+expression::behind_others-returns-in-Call t c =
+    let at = c.args.e.now.at in
+    let es = c.in-Call.arguments in
+    let behind = rw c.deref-in-Call.ensures.value at c.behind_expressions.ensures in
+    let told = ap (λ z. before_first z ++ behind_first z) (ap (expression_of at) c.in-Call.is ∙ call_tree at c.in-Call.field-0 es) in
+    subst (λ z. IfOk c.behind_expressions.result (λ n. n ≡ c.args.next + length z)) (sym told) behind
+
+pub expression::behind_form-returns-in_ok-inner-in-Call : goal.expression::behind_form-returns-in_ok-inner-in-Call
+expression::behind_form-returns-in_ok-inner-in-Call t c =
     let at = c.args.e.now.at in
     let f = c.in-Call.callee in
     let es = c.in-Call.arguments in

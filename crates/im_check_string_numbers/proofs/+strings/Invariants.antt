@@ -1,7 +1,13 @@
-use Rattle.std.proofs.Common.{◌≡◌, ◌+◌, length, drop}
+use Rattle.std.proofs.Common.{◌≡◌, ◌+◌, ◌≤◌, length, drop}
+use Rattle.im_ctree.specs.declared.expression.Expression.{size-Expression}
 use Rattle.im_rules.specs.Strings as s
-use Rattle.im_ctree_parts.specs.Lists.{expressions_from, list_from, members_from, declarators_from, enumerators_from, suffixes_from, parameters_from}
+use Rattle.im_ctree_parts.specs.Lists.{expression_in, expressions_from, list_from, members_from, declarators_from, enumerators_from, suffixes_from, parameters_from}
 use Rattle.im_check_string_numbers.proofs.+strings.Given as goal
+
+abbrev pub invariant-expression::behind_expression-loop-first : goal.invariant-expression::behind_expression-loop-first
+invariant-expression::behind_expression-loop-first l =
+    (l.done + length (s.strings_in (expression_in l.rest)) ≡ l.next + length (s.strings_in (expression_in l.e)))
+    × (size-Expression l.rest ≤ size-Expression l.e)
 
 abbrev pub invariant-expression::behind_expressions-loop-e : goal.invariant-expression::behind_expressions-loop-e
 invariant-expression::behind_expressions-loop-e l = l.done + length (s.strings_among (expressions_from (drop l.e-index l.expressions))) ≡ l.next + length (s.strings_among (expressions_from l.expressions))

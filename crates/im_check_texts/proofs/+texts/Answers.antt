@@ -1,4 +1,4 @@
-use Rattle.std.proofs.Common.{◌≡◌, ◌++◌, List, OnOk, ap, subst, sym, ◌∙◌}
+use Rattle.std.proofs.Common.{◌≡◌, ◌++◌, List, OnOk, ap, subst, sym, ◌∙◌, arith}
 use Rattle.im_check_texts.specs.im_word.Words.{Name}
 use Rattle.im_ctree.specs.Tree as tree
 use Rattle.im_ctree.specs.Shape.{declarator_of, core_of, type_name_of, expression_of, specifier_of}
@@ -9,9 +9,11 @@ use Rattle.im_ctree.specs.declared.specifier.Member.{out-Member}
 use Rattle.im_check_texts.specs.im_rules.Strings as s
 use Rattle.im_ctree_parts.specs.Lists.{expression_in, expressions_from, specifiers_in, with_member, declarators_from, declarator_from, suffixes_from, with_suffix, parameters_from, with_parameter}
 use Rattle.im_ctree_parts.proofs.Shapes.{call_tree, struct_tree, enum_tree, function_suffix}
+use Rattle.im_check_string_numbers.specs.Chains.{behind_first}
 use Rattle.im_check_string_numbers.proofs.Counted.{in_member, in_declarator, in_parameter, in_type_name}
 use Rattle.im_check_texts.specs.Texts.{texts_in}
 use Rattle.im_check_texts.proofs.Appended.{joined, passing, both_passing, on_ok}
+use Rattle.im_check_texts.proofs.Chains.{link_down, link_up, formed, none_deeper_more, none_deeper_less}
 use Rattle.im_check_texts.proofs.+texts.Goals as goal
 
 pub declarator::append_declarator-returns : goal.declarator::append_declarator-returns
@@ -38,8 +40,16 @@ declarator::append_suffix-returns-in-Function t c =
     let told = λ (rest : tree.Suffixes). ap s.strings_of_suffixes (ap (λ k. with_suffix at k rest) c.in-Function.is ∙ function_suffix at ps rest) in
     on_ok c.append_parameters.result (passing (texts_in c.args.texts.now.items) (texts_in c.append_parameters.new.texts.items) (s.strings_of_parameters (parameters_from ps.items)) (λ rest. s.strings_of_suffixes (with_suffix at c.args.suffix.now.kind rest)) s.strings_of_suffixes told) behind
 
-pub expression::append_expression-returns-in_ok-append_expression-in-Call : goal.expression::append_expression-returns-in_ok-append_expression-in-Call
-expression::append_expression-returns-in_ok-append_expression-in-Call t c =
+pub expression::append_behind_first-returns-in-Call : goal.expression::append_behind_first-returns-in-Call
+expression::append_behind_first-returns-in-Call t c =
+    let at = c.args.e.now.at in
+    let es = c.in-Call.arguments in
+    let behind = rw c.deref-in-Call.ensures.value at c.append_expressions.ensures in
+    let told = ap behind_first (ap (expression_of at) c.in-Call.is ∙ call_tree at c.in-Call.field-0 es) in
+    subst (λ (z : List Name). OnOk c.append_expressions.result (texts_in c.append_expressions.new.texts.items ≡ texts_in c.args.texts.now.items ++ z)) (sym told) behind
+
+pub expression::append_form-returns-in_ok-append_expression-in-Call : goal.expression::append_form-returns-in_ok-append_expression-in-Call
+expression::append_form-returns-in_ok-append_expression-in-Call t c =
     let at = c.args.e.now.at in
     let f = c.in-Call.callee in
     let es = c.in-Call.arguments in
@@ -78,3 +88,16 @@ specifier::append_specifier-returns-in-Enum t c =
     let behind = rw c.deref-in-Enum.ensures.value at c.append_enumerators.ensures in
     let told = ap s.strings_of_specifier (ap (specifier_of at) c.in-Enum.is ∙ enum_tree at _ c.in-Enum.enumerators) in
     subst (λ (z : List Name). OnOk c.append_enumerators.result (texts_in c.append_enumerators.new.texts.items ≡ texts_in c.args.texts.now.items ++ z)) (sym told) behind
+
+pub expression::append_expression-loop-first-preserved : goal.expression::append_expression-loop-first-preserved
+expression::append_expression-loop-first-preserved t c =
+    let down = link_down _ _ _ _ _ _ c.in_ok-push.ensures.items c.in-Some.ensures.chain c.in_ok-append_before_first.ensures ∙ c.loop-first.invariant.0 in
+    (down, omega (arith, c.in-Some.ensures.below, c.loop-first.invariant.1), none_deeper_more _ _ _ _ c.in_ok-push.ensures.items c.loop-first.invariant.2 c.loop-first.invariant.1)
+
+pub expression::append_expression-loop-link-init : goal.expression::append_expression-loop-link-init
+expression::append_expression-loop-link-init t c =
+    (formed _ _ _ _ c.in_ok-append_form.ensures ∙ c.loop-first.invariant.0, c.loop-first.invariant.2)
+
+pub expression::append_expression-loop-link-preserved : goal.expression::append_expression-loop-link-preserved
+expression::append_expression-loop-link-preserved t c =
+    (link_up _ _ _ _ _ c.in-Some-pop.ensures.items c.in_ok-append_behind_first.ensures ∙ c.loop-link.invariant.0, (none_deeper_less _ _ _ _ c.in-Some-pop.ensures.items c.loop-link.invariant.1).1)

@@ -5,12 +5,14 @@ use Rattle.im_ctree.specs.Tree as tree
 use Rattle.im_ctree.specs.Shape.{expression_of, specifier_of, declarator_of, type_name_of}
 use Rattle.im_ctree.specs.declared.declarator.Declarator.{out-Declarator}
 use Rattle.im_ctree_parts.specs.Lists.{expression_in, list_from, maybe_from, with_suffix, declarators_from}
-use Rattle.im_ctree_parts.proofs.Shapes.{declarator_shape, type_name_shape}
+use Rattle.im_ctree_parts.proofs.Shapes.{call_tree, declarator_shape, type_name_shape}
 use Rattle.im_print_relation.specs.Printed as printed
 use Rattle.im_print_parts.specs.Output.{known}
 use Rattle.im_print_parts.specs.Parts as parts
 use Rattle.im_print_parts.proofs.Writing.{writes_append, writes_first, writes_same, writes_behind, each_step, row_step}
-use Rattle.im_print_parts.proofs.Rows.{writes_items, parenthesized, separated_step, arguments_separated, parameters_separated, enumerators_separated, struct_words, enum_words, call_words, array_words, function_words, declarators_first, suffixes_each, stars_each}
+use Rattle.im_print_parts.proofs.Writing as writing
+use Rattle.im_print_parts.proofs.Links.{link_down, link_up, none_deeper_more, none_deeper_less}
+use Rattle.im_print_parts.proofs.Rows.{writes_items, parenthesized, separated_step, arguments_separated, parameters_separated, enumerators_separated, struct_words, enum_words, array_words, function_words, declarators_first, suffixes_each, stars_each}
 use Rattle.im_print_parts.proofs.+printing.Goals as goal
 
 pub expressions::put_member-returns : goal.expressions::put_member-returns
@@ -139,38 +141,45 @@ specifiers::put_declarators-returns-in_ok-put_next_declarators-in-len1-up t c =
     let T = known c.args.names.now in
     writes_items (λ xs. printed.declarators T c.args.typed (declarators_from xs)) (λ x. printed.behind_specifiers T c.args.typed (declarator_of x) (parts.declarator_words T x)) (parts.next_declarator T) (declarators_first T c.args.typed) c.args.declarators.now c.first-item.result c.in-len1-up.len_at_least c.first-item.is c.in_ok-put_behind_specifiers-in-len1-up.ensures c.in_ok-put_next_declarators-in-len1-up.ensures
 
-pub expressions::put_expression-returns-in_ok-put_enclosed-in-Index : goal.expressions::put_expression-returns-in_ok-put_enclosed-in-Index
-expressions::put_expression-returns-in_ok-put_enclosed-in-Index t c =
-    let same = ap (λ k. printed.expression (known c.args.names.now) (expression_of c.args.e.now.at k)) c.in-Index.is in
-    writes_same (sym same) (writes_append (rw c.deref-in-Index.ensures at c.in_ok-put_at-in-Index.ensures) (rw c.deref-in-Index-2.ensures at c.in_ok-put_enclosed-in-Index.ensures))
-
-pub expressions::put_expression-returns-in_ok-put_closed_arguments-in-Call : goal.expressions::put_expression-returns-in_ok-put_closed_arguments-in-Call
-expressions::put_expression-returns-in_ok-put_closed_arguments-in-Call t c =
-    let same = ap (λ k. printed.expression (known c.args.names.now) (expression_of c.args.e.now.at k)) c.in-Call.is in
-    let made = call_words (known c.args.names.now) c.args.e.now.at c.in-Call.callee c.in-Call.arguments in
-    writes_same (sym (same ∙ made)) (writes_append (rw c.deref-in-Call.ensures at c.in_ok-put_at-in-Call.ensures) (rw c.deref-in-Call-2.ensures.value at c.in_ok-put_closed_arguments-in-Call.ensures))
-
-pub expressions::put_expression-returns-in_ok-put_at-in-Cast : goal.expressions::put_expression-returns-in_ok-put_at-in-Cast
-expressions::put_expression-returns-in_ok-put_at-in-Cast t c =
-    let same = ap (λ k. printed.expression (known c.args.names.now) (expression_of c.args.e.now.at k)) c.in-Cast.is in
-    writes_same (sym same) (writes_behind (mark punctuator.OpenParen ∷ printed.type_name (known c.args.names.now) (type_name_of c.in-Cast.name.value)) (mark punctuator.CloseParen) (rw c.deref-in-Cast.ensures at c.in_ok-put_closed_type_name-in-Cast.ensures) (rw c.deref-in-Cast-2.ensures at c.in_ok-put_at-in-Cast.ensures))
-
-pub expressions::put_expression-returns-in_ok-put_prefixed-in-Binary : goal.expressions::put_expression-returns-in_ok-put_prefixed-in-Binary
-expressions::put_expression-returns-in_ok-put_prefixed-in-Binary t c =
+pub expressions::put_form-returns-in_ok-put_prefixed-in-Binary : goal.expressions::put_form-returns-in_ok-put_prefixed-in-Binary
+expressions::put_form-returns-in_ok-put_prefixed-in-Binary t c =
     let same = ap (λ k. printed.expression (known c.args.names.now) (expression_of c.args.e.now.at k)) c.in-Binary.is in
     writes_same (sym same) (writes_append (rw (c.deref-in-Binary.ensures, c.left_level.ensures) at c.in_ok-put_at-in-Binary.ensures) (rw (c.deref-in-Binary-2.ensures, c.operator_mark.ensures, c.right_level.ensures) at c.in_ok-put_prefixed-in-Binary.ensures))
 
-pub expressions::put_expression-returns-in_ok-put_at-in-Conditional-2 : goal.expressions::put_expression-returns-in_ok-put_at-in-Conditional-2
-expressions::put_expression-returns-in_ok-put_at-in-Conditional-2 t c =
+pub expressions::put_form-returns-in_ok-put_at-in-Conditional-2 : goal.expressions::put_form-returns-in_ok-put_at-in-Conditional-2
+expressions::put_form-returns-in_ok-put_at-in-Conditional-2 t c =
     let same = ap (λ k. printed.expression (known c.args.names.now) (expression_of c.args.e.now.at k)) c.in-Conditional.is in
     writes_same (sym same) (writes_append (rw c.deref-in-Conditional.ensures at c.in_ok-put_at-in-Conditional.ensures) (writes_behind (mark punctuator.Question ∷ printed.expression (known c.args.names.now) (expression_in c.in-Conditional.first.value)) (mark punctuator.Colon) (rw c.deref-in-Conditional-2.ensures at c.in_ok-put_enclosed-in-Conditional.ensures) (rw c.deref-in-Conditional-3.ensures at c.in_ok-put_at-in-Conditional-2.ensures)))
 
-pub expressions::put_expression-returns-in_ok-put_prefixed-in-Assign : goal.expressions::put_expression-returns-in_ok-put_prefixed-in-Assign
-expressions::put_expression-returns-in_ok-put_prefixed-in-Assign t c =
+pub expressions::put_form-returns-in_ok-put_prefixed-in-Assign : goal.expressions::put_form-returns-in_ok-put_prefixed-in-Assign
+expressions::put_form-returns-in_ok-put_prefixed-in-Assign t c =
     let same = ap (λ k. printed.expression (known c.args.names.now) (expression_of c.args.e.now.at k)) c.in-Assign.is in
     writes_same (sym same) (writes_append (rw c.deref-in-Assign.ensures at c.in_ok-put_at-in-Assign.ensures) (rw (c.deref-in-Assign-2.ensures, c.assign_mark.ensures) at c.in_ok-put_prefixed-in-Assign.ensures))
 
-pub expressions::put_expression-returns-in_ok-put_prefixed-in-Comma : goal.expressions::put_expression-returns-in_ok-put_prefixed-in-Comma
-expressions::put_expression-returns-in_ok-put_prefixed-in-Comma t c =
-    let same = ap (λ k. printed.expression (known c.args.names.now) (expression_of c.args.e.now.at k)) c.in-Comma.is in
-    writes_same (sym same) (writes_append (rw c.deref-in-Comma.ensures at c.in_ok-put_expression-in-Comma.ensures) (rw c.deref-in-Comma-2.ensures at c.in_ok-put_prefixed-in-Comma.ensures))
+pub expressions::put_before_first-returns-in_ok-put_parenthesis-in-Cast : goal.expressions::put_before_first-returns-in_ok-put_parenthesis-in-Cast
+expressions::put_before_first-returns-in_ok-put_parenthesis-in-Cast t c =
+    let same = ap (λ k. parts.before_first (known c.args.names.now) (expression_of c.args.e.now.at k)) c.in-Cast.is in
+    writes_same (sym same) (writes_behind (mark punctuator.OpenParen ∷ printed.type_name (known c.args.names.now) (type_name_of c.in-Cast.name.value)) (mark punctuator.CloseParen) (rw c.deref-in-Cast.ensures at c.in_ok-put_closed_type_name-in-Cast.ensures) (rw c.deref-in-Cast-2.ensures at c.in_ok-put_parenthesis-in-Cast.ensures))
+
+pub expressions::put_behind_first-returns-in_ok-put_enclosed-in-Index : goal.expressions::put_behind_first-returns-in_ok-put_enclosed-in-Index
+expressions::put_behind_first-returns-in_ok-put_enclosed-in-Index t c =
+    let same = ap (λ k. parts.behind_first (known c.args.names.now) (expression_of c.args.e.now.at k)) c.in-Index.is in
+    writes_same (sym same) (writes_append (rw c.deref-in-Index.ensures at c.in_ok-put_parenthesis-in-Index.ensures) (rw c.deref-in-Index-2.ensures at c.in_ok-put_enclosed-in-Index.ensures))
+
+pub expressions::put_behind_first-returns-in_ok-put_closed_arguments-in-Call : goal.expressions::put_behind_first-returns-in_ok-put_closed_arguments-in-Call
+expressions::put_behind_first-returns-in_ok-put_closed_arguments-in-Call t c =
+    let same = ap (λ k. parts.behind_first (known c.args.names.now) (expression_of c.args.e.now.at k)) c.in-Call.is in
+    let made = ap (parts.behind_first (known c.args.names.now)) (call_tree c.args.e.now.at c.in-Call.callee c.in-Call.arguments) in
+    writes_same (sym (same ∙ made)) (writes_append (rw c.deref-in-Call.ensures at c.in_ok-put_parenthesis-in-Call.ensures) (rw c.deref-in-Call-2.ensures.value at c.in_ok-put_closed_arguments-in-Call.ensures))
+
+pub expressions::put_expression-loop-first-preserved : goal.expressions::put_expression-loop-first-preserved
+expressions::put_expression-loop-first-preserved t c =
+    let written = link_down (known c.args.names.now) _ _ _ _ c.in_ok-push.ensures.items (c.in-Some.ensures.chain (known c.args.names.now)) c.in_ok-put_before_first.ensures ∙ c.loop-first.invariant.0 in
+    (written, omega (arith, c.in-Some.ensures.below, c.loop-first.invariant.1), none_deeper_more _ _ _ _ c.in_ok-push.ensures.items c.loop-first.invariant.2 c.loop-first.invariant.1)
+
+pub expressions::put_expression-loop-link-init : goal.expressions::put_expression-loop-link-init
+expressions::put_expression-loop-link-init t c = (writing.written _ c.in_ok-put_form.ensures ∙ c.loop-first.invariant.0, c.loop-first.invariant.2)
+
+pub expressions::put_expression-loop-link-preserved : goal.expressions::put_expression-loop-link-preserved
+expressions::put_expression-loop-link-preserved t c =
+    (link_up (known c.args.names.now) _ _ _ c.in-Some-pop.ensures.items c.in_ok-put_behind_first.ensures ∙ c.loop-link.invariant.0, (none_deeper_less _ _ _ _ c.in-Some-pop.ensures.items c.loop-link.invariant.1).1)

@@ -1,8 +1,10 @@
-use Rattle.std.proofs.Common.{◌≡◌, ◌++◌, drop, false}
+use Rattle.std.proofs.Common.{◌≡◌, ◌≤◌, ◌++◌, length, drop, false}
+use Rattle.im_ctree.specs.declared.expression.Expression.{size-Expression}
 use Rattle.im_print_parts.specs.Output.{spaced, each, known}
 use Rattle.im_print_parts.specs.Parts as parts
 use Rattle.im_print_relation.specs.Printed as printed
-use Rattle.im_ctree_parts.specs.Lists.{list_from}
+use Rattle.im_ctree_parts.specs.Lists.{expression_in, list_from}
+use Rattle.im_print_parts.proofs.Links.{behind, NoneDeeper}
 use Rattle.im_print_parts.proofs.+printing.Given as goal
 
 abbrev pub invariant-expressions::put_arguments-loop-argument : goal.invariant-expressions::put_arguments-loop-argument
@@ -25,3 +27,19 @@ invariant-specifiers::put_enumerators-loop-enumerator l = l.out.items ++ spaced 
 
 abbrev pub invariant-specifiers::put_specifiers-loop-specifier : goal.invariant-specifiers::put_specifiers-loop-specifier
 invariant-specifiers::put_specifiers-loop-specifier l = l.out.items ++ spaced (printed.specifier_list (known l.names) (list_from (drop l.specifier-index l.specifiers))) ≡ l.initial.out.items ++ spaced (printed.specifier_list (known l.names) (list_from l.specifiers))
+
+-- down a chain: what is left is the rest, and what stands behind its links
+abbrev pub invariant-expressions::put_expression-loop-first : goal.invariant-expressions::put_expression-loop-first
+invariant-expressions::put_expression-loop-first l =
+    (l.out.items ++ spaced (printed.expression (known l.names) (expression_in l.rest) ++ behind (known l.names) l.links.items) ≡ l.initial.out.items ++ spaced (printed.expression (known l.names) (expression_in l.e)))
+    × (size-Expression l.rest ≤ size-Expression l.e)
+    × NoneDeeper (size-Expression l.e) l.links.items
+
+-- and up again
+abbrev pub invariant-expressions::put_expression-loop-link : goal.invariant-expressions::put_expression-loop-link
+invariant-expressions::put_expression-loop-link l =
+    (l.out.items ++ spaced (behind (known l.names) l.links.items) ≡ l.fn.out.items ++ spaced (printed.expression (known l.names) (expression_in l.e)))
+    × NoneDeeper (size-Expression l.e) l.links.items
+
+abbrev pub decreases-expressions::put_expression-loop-link : goal.decreases-expressions::put_expression-loop-link
+decreases-expressions::put_expression-loop-link l = length l.links.items

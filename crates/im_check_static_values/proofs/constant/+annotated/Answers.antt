@@ -18,14 +18,14 @@ chosen : (a b d w x y whole : p.Expr) → a ≡ w → b ≡ x → d ≡ y → wh
 chosen a b d w x y whole test first second e =
     ap (λ z. p.Choose z b d) test ∙ ap (λ z. p.Choose w z d) first ∙ ap (λ z. p.Choose w x z) second ∙ sym e
 
-pub returns-in-Number : goal.returns-in-Number
-returns-in-Number t c = λ types.
+pub annotated_form-returns-in-Number : goal.annotated_form-returns-in-Number
+annotated_form-returns-in-Number t c = λ types.
     let f : SFits w128 c.in-Number.z = search rules in
     let e = ap (λ z. p.Constant c.in-Number.kind z) (to_z-of_z w128 c.in-Number.z f) ∙ sym (ap (expr_of types) c.in-Number.is) in
     subst (λ x. IfOk c.constant.result (λ a. expr_of types a.tree ≡ x)) e (c.constant.ensures types)
 
-pub returns-in_ok-y-in-Choose : goal.returns-in_ok-y-in-Choose
-returns-in_ok-y-in-Choose t c = λ types.
+pub annotated_form-returns-in_ok-y-in-Choose : goal.annotated_form-returns-in_ok-y-in-Choose
+annotated_form-returns-in_ok-y-in-Choose t c = λ types.
     let e = ap (expr_of types) c.in-Choose.is in
     let w : expr_of types c.in_ok-w-in-Choose.w.tree ≡ expr_of types c.in-Choose.test.value =
     operand types _ _ _ _ _ (c.in_ok-w-in-Choose.ensures types) c.taken-in-Choose.ensures c.deref_mut-in-Choose.ensures.value c.in-Choose.test-is in

@@ -11,16 +11,16 @@ use Rattle.im_lower.proofs.Makes.{and_made, choice_made, copy_made, increment_ma
 use Rattle.im_lower.proofs.Rows.{call_made}
 use Rattle.im_lower.proofs.expressions.+expressions.Goals as goal
 
-pub lower_expression-returns-in_ok-put-in-Call : goal.lower_expression-returns-in_ok-put-in-Call
-lower_expression-returns-in_ok-put-in-Call t c =
+pub lower_form-returns-in_ok-put-in-Call : goal.lower_form-returns-in_ok-put-in-Call
+lower_form-returns-in_ok-put-in-Call t c =
     let g = program_of c.args.prog.now in
     let types = c.args.prog.now.types in
     let same = ap (λ (e : Expr). make g c.args.first (expr_of types e) c.args.to c.args.free c.args.code.now) c.in-Call.is in
     let counted = call_made g c.args.first types c.in-Call.function c.in-Call.arguments c.args.to c.args.free c.args.code.now in
     search (rules, same, counted)
 
-pub lower_expression-returns-in_ok-put_increment-in-Increment : goal.lower_expression-returns-in_ok-put_increment-in-Increment
-lower_expression-returns-in_ok-put_increment-in-Increment t c =
+pub lower_form-returns-in_ok-put_increment-in-Increment : goal.lower_form-returns-in_ok-put_increment-in-Increment
+lower_form-returns-in_ok-put_increment-in-Increment t c =
     let g = program_of c.args.prog.now in
     let types = c.args.prog.now.types in
     let w = c.in-Increment in
@@ -33,8 +33,8 @@ lower_expression-returns-in_ok-put_increment-in-Increment t c =
     let whole = ap (λ (e : Expr). make g c.args.first (expr_of types e) c.args.to c.args.free m) w.is in
     subst (λ (z : Made). OnOk c.lower_place-in-Increment.result (c.lower_place-in-Increment.new.code ≡ z)) (walked ∙ made ∙ sym whole) c.lower_place-in-Increment.ensures
 
-pub lower_expression-returns-in_ok-holds-in-Choose : goal.lower_expression-returns-in_ok-holds-in-Choose
-lower_expression-returns-in_ok-holds-in-Choose t c =
+pub lower_form-returns-in_ok-holds-in-Choose : goal.lower_form-returns-in_ok-holds-in-Choose
+lower_form-returns-in_ok-holds-in-Choose t c =
     let g = program_of c.args.prog.now in
     let types = c.args.prog.now.types in
     let w = c.in-Choose in
@@ -54,8 +54,8 @@ lower_expression-returns-in_ok-holds-in-Choose t c =
     let whole = ap (λ (e : Expr). make g c.args.first (expr_of types e) c.args.to c.args.free m) w.is in
     subst (λ (z : Made). OnOk c.lower_test-in-Choose.result (c.lower_test-in-Choose.new.code ≡ z)) (tested ∙ made ∙ sym whole) c.lower_test-in-Choose.ensures
 
-pub lower_expression-returns-in_ok-holds-in-And : goal.lower_expression-returns-in_ok-holds-in-And
-lower_expression-returns-in_ok-holds-in-And t c =
+pub lower_form-returns-in_ok-holds-in-And : goal.lower_form-returns-in_ok-holds-in-And
+lower_form-returns-in_ok-holds-in-And t c =
     let g = program_of c.args.prog.now in
     let types = c.args.prog.now.types in
     let w = c.in-And in
@@ -72,8 +72,8 @@ lower_expression-returns-in_ok-holds-in-And t c =
     let whole = ap (λ (e : Expr). make g c.args.first (expr_of types e) c.args.to c.args.free m) w.is in
     subst (λ (z : Made). OnOk c.lower_test-in-And.result (c.lower_test-in-And.new.code ≡ z)) (tested ∙ made ∙ sym whole) c.lower_test-in-And.ensures
 
-pub lower_expression-returns-in_ok-fails-in-Or : goal.lower_expression-returns-in_ok-fails-in-Or
-lower_expression-returns-in_ok-fails-in-Or t c =
+pub lower_form-returns-in_ok-fails-in-Or : goal.lower_form-returns-in_ok-fails-in-Or
+lower_form-returns-in_ok-fails-in-Or t c =
     let g = program_of c.args.prog.now in
     let types = c.args.prog.now.types in
     let w = c.in-Or in
@@ -136,8 +136,8 @@ lower_test-returns-in_ok-next-in_default t c =
     let made = value_decides g c.args.first types c.args.test.now free targets.holds targets.fails m c.in_default.not-Not c.in_default.not-And c.in_default.not-Or in
     subst (λ (z : Made). OnOk c.lower_expression.result (c.lower_expression.new.code ≡ z)) (above ∙ begun ∙ made) c.lower_expression.ensures
 
-pub lower_expression-returns-in_ok-lower_expression-in-Binary : goal.lower_expression-returns-in_ok-lower_expression-in-Binary
-lower_expression-returns-in_ok-lower_expression-in-Binary t c =
+pub lower_form-returns-in_ok-lower_expression-in-Binary : goal.lower_form-returns-in_ok-lower_expression-in-Binary
+lower_form-returns-in_ok-lower_expression-in-Binary t c =
     let g = program_of c.args.prog.now in
     let types = c.args.prog.now.types in
     let w = c.in-Binary in
@@ -152,8 +152,8 @@ lower_expression-returns-in_ok-lower_expression-in-Binary t c =
     let whole = operator_made g c.args.first types c.args.expression.now w.left w.right c.args.to c.args.free m w.is in
     subst (λ (z : Made). OnOk c.lower_expression-in-Binary-2.result (c.lower_expression-in-Binary-2.new.code ≡ z)) (left ∙ both ∙ whole) c.lower_expression-in-Binary-2.ensures
 
-pub lower_expression-returns-in_ok-lower_expression-in-Struct : goal.lower_expression-returns-in_ok-lower_expression-in-Struct
-lower_expression-returns-in_ok-lower_expression-in-Struct t c =
+pub lower_form-returns-in_ok-lower_expression-in-Struct : goal.lower_form-returns-in_ok-lower_expression-in-Struct
+lower_form-returns-in_ok-lower_expression-in-Struct t c =
     let g = program_of c.args.prog.now in
     let types = c.args.prog.now.types in
     let w = c.in-Assign in
@@ -187,8 +187,8 @@ lower_test-returns-in-Not t c =
     let whole = ap (λ (e : Expr). make_test g c.args.first (expr_of types e) c.args.free targets.holds targets.fails m) c.in-Not.is in
     subst (λ (z : Made). OnOk c.lower_test.result (c.lower_test.new.code ≡ z)) (turned ∙ sym whole) c.lower_test.ensures
 
-pub lower_expression-returns-in_ok-put_read-in-Update : goal.lower_expression-returns-in_ok-put_read-in-Update
-lower_expression-returns-in_ok-put_read-in-Update t c =
+pub lower_form-returns-in_ok-put_read-in-Update : goal.lower_form-returns-in_ok-put_read-in-Update
+lower_form-returns-in_ok-put_read-in-Update t c =
     let g = program_of c.args.prog.now in
     let types = c.args.prog.now.types in
     let w = c.in-Update in
@@ -207,3 +207,15 @@ lower_expression-returns-in_ok-put_read-in-Update t c =
     let walked = ap (λ (x : Place). make_place g c.args.first (place_of types x) c.args.free m₃) c.deref-in-Update-4.ensures in
     let whole = ap (λ (e : Expr). make g c.args.first (expr_of types e) c.args.to c.args.free m) w.is in
     subst (λ (z : Made). OnOk c.lower_place-in-Update.result (c.lower_place-in-Update.new.code ≡ z)) (walked ∙ made ∙ sym whole) c.lower_place-in-Update.ensures
+
+pub lower_place-returns-in-None : goal.lower_place-returns-in-None
+lower_place-returns-in-None t c = sym (c.in-None.ensures.made c.args.prog.now.types (program_of c.args.prog.now) c.args.first c.args.free c.args.code.now)
+
+pub lower_place-returns-in_ok-next-in-Some : goal.lower_place-returns-in_ok-next-in-Some
+lower_place-returns-in_ok-next-in-Some t c =
+    let g = program_of c.args.prog.now in
+    let types = c.args.prog.now.types in
+    let m = c.args.code.now in
+    let reached = c.in-Some.ensures.made types g c.args.first c.args.free m in
+    let above = ap (λ n. make g c.args.first (expr_of types c.in-Some.pointer.now) c.args.free n m) c.in_ok-next-in-Some.ensures in
+    subst (λ (z : Made). OnOk c.lower_expression.result (c.lower_expression.new.code ≡ z)) (above ∙ sym reached) c.lower_expression.ensures

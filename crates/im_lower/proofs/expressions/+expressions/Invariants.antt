@@ -1,5 +1,7 @@
-use Rattle.std.proofs.Common.{◌≡◌, ◌+◌, drop}
-use Rattle.im_typed.specs.ProgramOf.{program_of}
+use Rattle.std.proofs.Common.{◌≡◌, ◌≤◌, ◌+◌, drop}
+use Rattle.im_typed.specs.declared.expression.Expr.{size-Expr}
+use Rattle.im_typed.specs.ProgramOf.{expr_of, program_of}
+use Rattle.im_lower_plain.specs.Make.{make}
 use Rattle.im_lower.specs.MakeEach.{make_each}
 use Rattle.im_lower.proofs.expressions.+expressions.Given as goal
 
@@ -7,3 +9,10 @@ use Rattle.im_lower.proofs.expressions.+expressions.Given as goal
 abbrev pub invariant-lower_arguments-loop-index : goal.invariant-lower_arguments-loop-index
 invariant-lower_arguments-loop-index l =
     l.code ≡ make_each (program_of l.prog) l.first l.prog.types (drop l.index l.arguments) (l.free + l.index) l.initial.code
+
+-- the code that is left is that of the rest
+abbrev pub invariant-lower_expression-loop-operand : goal.invariant-lower_expression-loop-operand
+invariant-lower_expression-loop-operand l =
+    (make (program_of l.prog) l.first (expr_of l.prog.types l.expression) l.initial.to l.initial.free l.initial.code
+    ≡ make (program_of l.prog) l.first (expr_of l.prog.types l.rest) l.to l.free l.code)
+    × (size-Expr l.rest ≤ size-Expr l.expression)

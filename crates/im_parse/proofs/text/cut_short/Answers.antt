@@ -11,7 +11,7 @@ pub returns-in-Ok : goal.returns-in-Ok
 returns-in-Ok c =
     let words = c.args.words.now in
     let spelled = subst (Spells (tree_of c.in-Ok.field-0)) (sym (take-map shown c.args.place words)) c.in-Ok.ensures in
-    rw c.links_at.ensures ((refl, whole_front (map shown words) c.args.place (tree_of c.in-Ok.field-0) spelled))
+    rw c.dimensions_at.ensures ((refl, whole_front (map shown words) c.args.place (tree_of c.in-Ok.field-0) spelled))
 
 pub returns-in-Syntax : goal.returns-in-Syntax
 returns-in-Syntax c =
