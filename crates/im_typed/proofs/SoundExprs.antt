@@ -22,8 +22,8 @@ use Rattle.im_typed.specs.declared.expression.Change.{Change}
 use Rattle.im_typed.specs.declared.expression.Change.TheVariants.{Number as NumberBy, Move as PointerBy}
 use Rattle.im_typed.specs.Program.{Access, Scalar, Struct, Place, Static, Local, Target, Member, Expr, Constant, NullPointer, Read, Address, Convert, Unary, Binary, Move, MoveBy, Distance, Compare, Not, And, Or, Choose, Comma, Discard, Assign, Update, Increment, Part, Call, Serve, no_argument, an_argument, Exprs, no_exprs, more_exprs, LocalObject, Func, Prog}
 use Rattle.im_typed.specs.Runs.{World, State, Answer, Run, goes_on, checked}
-use Rattle.im_typed.specs.Values.{Values, Operates, computes, used, number_of, number_in, cells_of, update, changed, changed_kind}
-use Rattle.im_typed.specs.Meaning.{Around, Calls, local, place_of, value_of, values_of, served}
+use Rattle.im_typed.specs.Values.{Values, Operates, computes, used, number_of, number_in, cells_of, source_for, update, changed, changed_kind}
+use Rattle.im_typed.specs.Meaning.{Around, Calls, local, place_of, value_of, stored_of, values_of, served}
 use Rattle.im_typed.specs.Typing.{Each, IsInteger, IsGiven, IsRightShape, IsChange, IsStep, IsPart, TakesArgument, kinds_of, parameters, result_shape, shape_of, IsTypedPlace, IsTyped, AreArguments, IsPromotedShape, IsIntegerShape}
 use Rattle.im_typed.specs.Sound.{IsValue, IsSoundWorld, IsHere, AreValues, Fits, ArgumentsFit, KeepsWorld, IsRight}
 use Rattle.im_typed.proofs.Sounds.{keeps-trans, value-kept, here-kept, right-bind, right-give, right-weaker, right-checked, right-paid, right-either, right-used_values, right-value_in, right-scalar, right-number_in, right-integer}
@@ -295,7 +295,7 @@ module _ (g : Prog) where
           right-bind g.statics (right-value a s t sane here) (λ _ u sane₁ kept h. right-give g.statics u _ sane₁ refl)
       right-value (Assign x a e) s t sane here =
           right-bind g.statics (right-place a s t.1 sane here) (λ at u sane₁ kept h.
-          right-bind g.statics (at-shape t.3 (right-value e u t.2 sane₁ (here-kept kept here))) (λ vs v sane₂ kept₂ hv.
+          right-bind g.statics (at-shape t.3 (right-stored x at e u t.2 sane₁ (here-kept kept here))) (λ vs v sane₂ kept₂ hv.
           right-bind g.statics (right-used_values g.statics x v vs sane₂ hv) (λ _ w sane₃ kept₃ hw. right-write g.statics x at vs w sane₃ hw)))
       right-value (Update a change e) s t sane here =
           right-bind g.statics (right-place a s t.0 sane here) (λ at u sane₁ kept h.
@@ -318,6 +318,35 @@ module _ (g : Prog) where
           (λ z u sane₁ kept h.
           right-paid g.statics (Fits (Some (Scalar (row service).result))) u.world u.fuel _ (λ left.
           right-served c.capacity service z (record { world = u.world; fuel = left }) sane₁))
+
+      pub right-stored : (x : Access) (at : Value) (e : Expr) (s : State) → IsTyped g f e → IsSoundWorld g.statics s.world → IsHere f c s.world → IsRight g.statics s.world (Fits (shape_of g e)) (stored_of c x at e s)
+      right-stored (Scalar kind) at e s t sane here = right-value e s t sane here
+      right-stored (Struct count cells) at (Read x a) s t sane here =
+          right-bind g.statics (right-place a s t.1 sane here) (λ from u sane₁ kept h.
+          right-bind g.statics (right-checked g.statics (λ w v. Unit {0}) u (source_for cells at from) sane₁ (λ v e. tt)) (λ source v sane₂ kept₂ _.
+          right-read g.statics x source v sane₂))
+      right-stored (Struct count cells) at (Constant kind z) s t sane here = right-value (Constant kind z) s t sane here
+      right-stored (Struct count cells) at (NullPointer kind) s t sane here = right-value (NullPointer kind) s t sane here
+      right-stored (Struct count cells) at (Address a) s t sane here = right-value (Address a) s t sane here
+      right-stored (Struct count cells) at (Convert kind e) s t sane here = right-value (Convert kind e) s t sane here
+      right-stored (Struct count cells) at (Unary op kind e) s t sane here = right-value (Unary op kind e) s t sane here
+      right-stored (Struct count cells) at (Binary op kind a b) s t sane here = right-value (Binary op kind a b) s t sane here
+      right-stored (Struct count cells) at (Move size back a b) s t sane here = right-value (Move size back a b) s t sane here
+      right-stored (Struct count cells) at (MoveBy size a b) s t sane here = right-value (MoveBy size a b) s t sane here
+      right-stored (Struct count cells) at (Distance size a b) s t sane here = right-value (Distance size a b) s t sane here
+      right-stored (Struct count cells) at (Compare op kind a b) s t sane here = right-value (Compare op kind a b) s t sane here
+      right-stored (Struct count cells) at (Not a) s t sane here = right-value (Not a) s t sane here
+      right-stored (Struct count cells) at (And a b) s t sane here = right-value (And a b) s t sane here
+      right-stored (Struct count cells) at (Or a b) s t sane here = right-value (Or a b) s t sane here
+      right-stored (Struct count cells) at (Choose q a b) s t sane here = right-value (Choose q a b) s t sane here
+      right-stored (Struct count cells) at (Comma a b) s t sane here = right-value (Comma a b) s t sane here
+      right-stored (Struct count cells) at (Discard a) s t sane here = right-value (Discard a) s t sane here
+      right-stored (Struct count cells) at (Assign x a e) s t sane here = right-value (Assign x a e) s t sane here
+      right-stored (Struct count cells) at (Update a change e) s t sane here = right-value (Update a change e) s t sane here
+      right-stored (Struct count cells) at (Increment a change old) s t sane here = right-value (Increment a change old) s t sane here
+      right-stored (Struct count cells) at (Part from x e) s t sane here = right-value (Part from x e) s t sane here
+      right-stored (Struct count cells) at (Call n es) s t sane here = right-value (Call n es) s t sane here
+      right-stored (Struct count cells) at (Serve service argument) s t sane here = right-value (Serve service argument) s t sane here
 
       pub right-values : (es : Exprs) (os : List LocalObject) (s : State) → AreArguments g f os es → IsSoundWorld g.statics s.world → IsHere f c s.world → IsRight g.statics s.world (ArgumentsFit os) (values_of c es s)
       right-values no_exprs [] s t sane here = right-give g.statics s [] sane tt

@@ -8,11 +8,11 @@ use Rattle.im_store.specs.Numbers.{apply_one}
 use Rattle.im_store.specs.Objects.{Named, Object, static, Value, Null, Pointer, Unset, Shape, Store, same_object, zero_of}
 use Rattle.im_store.specs.Pointers.{moved_by, bytes_moved, member_at, distance, compare_values, holds}
 use Rattle.im_typed.specs.declared.statement.Case.{Case}
-use Rattle.im_typed.specs.Program.{Place, Static, Local, Target, Member, Expr, Constant, NullPointer, Read, Address, Convert, Unary, Binary, Move, MoveBy, Distance, Compare, Not, And, Or, Choose, Comma, Discard, Assign, Update, Increment, Part, Call, Serve, no_argument, an_argument, Exprs, no_exprs, more_exprs, Piece, Stmt, Do, Forget, Initialise, Block, If, While, DoWhile, For, Switch, Break, Continue, Return, Stmts, no_stmts, more_stmts}
+use Rattle.im_typed.specs.Program.{Access, Scalar, Struct, Place, Static, Local, Target, Member, Expr, Constant, NullPointer, Read, Address, Convert, Unary, Binary, Move, MoveBy, Distance, Compare, Not, And, Or, Choose, Comma, Discard, Assign, Update, Increment, Part, Call, Serve, no_argument, an_argument, Exprs, no_exprs, more_exprs, Piece, Stmt, Do, Forget, Initialise, Block, If, While, DoWhile, For, Switch, Break, Continue, Return, Stmts, no_stmts, more_stmts}
 use Rattle.im_serve.specs.declared.service.Service.{Service}
 use Rattle.im_serve.specs.Services.{serve}
 use Rattle.im_typed.specs.Runs.{World, Run, ◌>>=◌, give, starve, look, change, with_fuel, either, checked, in_store}
-use Rattle.im_typed.specs.Values.{Values, Operates, scalar, number, truth, used, value_in, number_in, cells_of, read_at, write_at, update}
+use Rattle.im_typed.specs.Values.{Values, Operates, scalar, number, truth, used, value_in, number_in, cells_of, source_for, read_at, write_at, update}
 
 -- what a call does, by the number of the function and the arguments
 abbrev pub Calls : Type 0
@@ -119,7 +119,7 @@ module _ (c : Around) where
       give []
     value_of (Assign x a e) = do
       at ← place_of a
-      vs ← value_of e
+      vs ← stored_of x at e
       _ ← used vs
       write_at x at vs
     value_of (Update a change e) = do
@@ -138,6 +138,15 @@ module _ (c : Around) where
     value_of (Serve service (an_argument e)) = do
       z ← number_in (value_of e)
       with_fuel (served c.capacity service z)
+
+    -- the value that an assignment stores at a place; a struct that is read for it overlaps the place whole or not at all
+    pub stored_of : Access → Value → Expr → Run Values
+    stored_of (Scalar kind) at e = value_of e
+    stored_of (Struct count cells) at (Read x a) = do
+      from ← place_of a
+      source ← checked (source_for cells at from)
+      read_at x source
+    stored_of (Struct count cells) at e = value_of e
 
     -- the arguments of a call, in order
     pub values_of : Exprs → Run (List Value)
