@@ -1,5 +1,5 @@
 -- Expressions and statements, where what calls and operators do is related.
-use Rattle.std.proofs.Common.{ℕ, zero, suc, ◌+◌, ◌≤◌, List, [], ◌∷◌, false, length, take, drop, arith}
+use Rattle.std.proofs.Common.{ℕ, zero, suc, ◌+◌, ◌≤◌, List, [], ◌∷◌, Bool, true, false, length, take, drop, arith}
 use Rattle.std.specs.Prelude.{Option, Some, None, pos}
 use Rattle.im_num.specs.Kinds.{wrap}
 use Rattle.im_store.specs.Numbers.{apply_one}
@@ -10,7 +10,7 @@ use Rattle.im_store.specs.Pointers.{moved_by, bytes_moved, member_at, distance, 
 use Rattle.im_typed.specs.Program.{Access, Scalar, Struct, Place, Static, Local, Target, Member, Expr, Constant, NullPointer, Read, Address, Convert, Unary, Binary, Move, MoveBy, Distance, Compare, Not, And, Or, Choose, Comma, Discard, Assign, Update, Increment, Part, Call, Serve, no_argument, an_argument, Exprs, no_exprs, more_exprs, Piece, Stmt, Do, Forget, Initialise, Block, If, While, DoWhile, For, Switch, Break, Continue, Return, Stmts, no_stmts, more_stmts}
 use Rattle.im_typed.specs.Runs.{Run, ◌>>=◌, give, starve, with_fuel, either}
 use Rattle.im_typed.specs.Values.{Values, Operates, cells_of, source_for, used, value_in}
-use Rattle.im_typed.specs.Meaning.{Around, Calls, Flow, Next, Broke, Continued, Returned, after_turn, place_of, value_of, stored_of, values_of, turns, decides, entered, out_of_switch, forgotten, cleared, given_offsets, initialise, returned, does, does_from}
+use Rattle.im_typed.specs.Meaning.{Around, Calls, Flow, Next, Broke, Continued, Returned, after_turn, place_of, value_of, is_read, stored, source_of, values_of, turns, decides, entered, out_of_switch, forgotten, cleared, given_offsets, initialise, returned, does, does_from}
 use Rattle.im_typed.proofs.Related.{Related, Tame, tame-bind, tame-give, tame-undefined, tame-starve, tame-paid, tame-either, tame-in_store, rel-bind, rel-give, rel-checked, rel-in_store, rel-either, rel-paid, rel-paid-zero, rel-paid-suc, rel-down}
 use Rattle.im_typed.proofs.Parts.{RelatedOperates, rel-change_store, rel-used, rel-value_in, rel-number_in, rel-read_at, rel-write_at, rel-update, rel-served, rel-after, rel-after_turn, rel-decides}
 
@@ -21,6 +21,12 @@ within activation depth first capacity calls operates =
 -- calls that are related, whatever is called
 pub record RelatedCalls (k b : ℕ) (calls calls' : Calls) : Type 0 where
   pub by : (f : ℕ) (vs : List Value) → Related k b (calls f vs) (calls' f vs)
+
+rel-stored : {k b : ℕ} (x : Access) (at : Value) (read : Bool) {value value' : Run Values} {source source' : Run Value} → Related k b value value' → Related k b source source' → Related k b (stored x at read value source) (stored x at read value' source')
+rel-stored (Scalar kind) at read v s = v
+rel-stored (Struct count cells) at false v s = v
+rel-stored (Struct count cells) at true v s =
+    rel-bind s (λ from. rel-bind (rel-checked (source_for cells at from)) (λ there. rel-read_at (Struct count cells) there))
 
 -- loops
 
@@ -126,7 +132,7 @@ module _ (k b activation depth first capacity : ℕ) (calls calls' : Calls) (ope
     rel-value (Comma x y) = rel-bind (rel-value x) (λ _. rel-value y)
     rel-value (Discard x) = rel-bind (rel-value x) (λ _. rel-give [])
     rel-value (Assign x a e) =
-        rel-bind (rel-place a) (λ at. rel-bind (rel-stored x at e) (λ vs. rel-bind (rel-used vs) (λ _. rel-write_at x at vs)))
+        rel-bind (rel-place a) (λ at. rel-bind (rel-stored x at (is_read e) (rel-value e) (rel-source e)) (λ vs. rel-bind (rel-used vs) (λ _. rel-write_at x at vs)))
     rel-value (Update a change e) = rel-bind (rel-place a) (λ at. rel-update operated change false at (rel-number_in (rel-value e)))
     rel-value (Increment a change old) = rel-bind (rel-place a) (λ at. rel-update operated change old at (rel-give (pos 1)))
     rel-value (Part from x e) = rel-bind (rel-value e) (λ vs. rel-give (take (length (cells_of x)) (drop from vs)))
@@ -134,32 +140,9 @@ module _ (k b activation depth first capacity : ℕ) (calls calls' : Calls) (ope
     rel-value (Serve service no_argument) = rel-paid (rel-served capacity service (pos 0))
     rel-value (Serve service (an_argument e)) = rel-bind (rel-number_in (rel-value e)) (λ z. rel-paid (rel-served capacity service z))
 
-    pub rel-stored : (x : Access) (at : Value) (e : Expr) → Related k b (stored_of c x at e) (stored_of d x at e)
-    rel-stored (Scalar kind) at e = rel-value e
-    rel-stored (Struct count cells) at (Read x a) =
-        rel-bind (rel-place a) (λ from. rel-bind (rel-checked (source_for cells at from)) (λ source. rel-read_at x source))
-    rel-stored (Struct count cells) at (Constant kind z) = rel-value (Constant kind z)
-    rel-stored (Struct count cells) at (NullPointer kind) = rel-value (NullPointer kind)
-    rel-stored (Struct count cells) at (Address a) = rel-value (Address a)
-    rel-stored (Struct count cells) at (Convert kind e) = rel-value (Convert kind e)
-    rel-stored (Struct count cells) at (Unary op kind e) = rel-value (Unary op kind e)
-    rel-stored (Struct count cells) at (Binary op kind a b) = rel-value (Binary op kind a b)
-    rel-stored (Struct count cells) at (Move size back a b) = rel-value (Move size back a b)
-    rel-stored (Struct count cells) at (MoveBy size a b) = rel-value (MoveBy size a b)
-    rel-stored (Struct count cells) at (Distance size a b) = rel-value (Distance size a b)
-    rel-stored (Struct count cells) at (Compare op kind a b) = rel-value (Compare op kind a b)
-    rel-stored (Struct count cells) at (Not a) = rel-value (Not a)
-    rel-stored (Struct count cells) at (And a b) = rel-value (And a b)
-    rel-stored (Struct count cells) at (Or a b) = rel-value (Or a b)
-    rel-stored (Struct count cells) at (Choose q a b) = rel-value (Choose q a b)
-    rel-stored (Struct count cells) at (Comma a b) = rel-value (Comma a b)
-    rel-stored (Struct count cells) at (Discard a) = rel-value (Discard a)
-    rel-stored (Struct count cells) at (Assign x a e) = rel-value (Assign x a e)
-    rel-stored (Struct count cells) at (Update a change e) = rel-value (Update a change e)
-    rel-stored (Struct count cells) at (Increment a change old) = rel-value (Increment a change old)
-    rel-stored (Struct count cells) at (Part from x e) = rel-value (Part from x e)
-    rel-stored (Struct count cells) at (Call n es) = rel-value (Call n es)
-    rel-stored (Struct count cells) at (Serve service argument) = rel-value (Serve service argument)
+    pub rel-source : (e : Expr) → Related k b (source_of c e) (source_of d e)
+    rel-source (Read x a) = rel-place a
+    rel-source _ = rel-give Null
 
     pub rel-values : (es : Exprs) → Related k b (values_of c es) (values_of d es)
     rel-values no_exprs = rel-give []

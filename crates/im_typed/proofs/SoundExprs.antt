@@ -23,7 +23,7 @@ use Rattle.im_typed.specs.declared.expression.Change.TheVariants.{Number as Numb
 use Rattle.im_typed.specs.Program.{Access, Scalar, Struct, Place, Static, Local, Target, Member, Expr, Constant, NullPointer, Read, Address, Convert, Unary, Binary, Move, MoveBy, Distance, Compare, Not, And, Or, Choose, Comma, Discard, Assign, Update, Increment, Part, Call, Serve, no_argument, an_argument, Exprs, no_exprs, more_exprs, LocalObject, Func, Prog}
 use Rattle.im_typed.specs.Runs.{World, State, Answer, Run, goes_on, checked}
 use Rattle.im_typed.specs.Values.{Values, Operates, computes, used, number_of, number_in, cells_of, source_for, update, changed, changed_kind}
-use Rattle.im_typed.specs.Meaning.{Around, Calls, local, place_of, value_of, stored_of, values_of, served}
+use Rattle.im_typed.specs.Meaning.{Around, Calls, local, place_of, value_of, is_read, stored, source_of, values_of, served}
 use Rattle.im_typed.specs.Typing.{Each, IsInteger, IsGiven, IsRightShape, IsChange, IsStep, IsPart, TakesArgument, kinds_of, parameters, result_shape, shape_of, IsTypedPlace, IsTyped, AreArguments, IsPromotedShape, IsIntegerShape}
 use Rattle.im_typed.specs.Sound.{IsValue, IsSoundWorld, IsHere, AreValues, Fits, ArgumentsFit, KeepsWorld, IsRight}
 use Rattle.im_typed.proofs.Sounds.{keeps-trans, value-kept, here-kept, right-bind, right-give, right-weaker, right-checked, right-paid, right-either, right-used_values, right-value_in, right-scalar, right-number_in, right-integer}
@@ -168,6 +168,15 @@ module _ (g : Prog) where
   either-value w kind true before after h k = h
   either-value w kind false before after h k = k
 
+  right-stored : (x : Access) (at : Value) (read : Bool) (s : State) {value : Run Values} {source : Run Value} → IsRight g.statics s.world (Fits (Some x)) (value s) → IsRight g.statics s.world (λ w v. Unit {0}) (source s)
+      → IsRight g.statics s.world (Fits (Some x)) (stored x at read value source s)
+  right-stored (Scalar kind) at read s v h = v
+  right-stored (Struct count cells) at false s v h = v
+  right-stored (Struct count cells) at true s v h =
+      right-bind g.statics h (λ from t sane kept _.
+      right-bind g.statics (right-checked g.statics (λ w v. Unit {0}) t (source_for cells at from) sane (λ v e. tt)) (λ there u sane₁ kept₁ _.
+      right-read g.statics (Struct count cells) there u sane₁))
+
   right-changed : (operates : Operates) → RightOperates g operates → (c : Change) (before : Value) (by : ℤ) (s : State) → IsStep c → IsSoundWorld g.statics s.world → IsAmount c by
       → IsRight g.statics s.world (λ w v. IsValue w.activations w.store (changed_kind c) v) (changed operates c before by s)
   right-changed operates h (NumberBy kind op at) before by s step sane amount =
@@ -295,7 +304,8 @@ module _ (g : Prog) where
           right-bind g.statics (right-value a s t sane here) (λ _ u sane₁ kept h. right-give g.statics u _ sane₁ refl)
       right-value (Assign x a e) s t sane here =
           right-bind g.statics (right-place a s t.1 sane here) (λ at u sane₁ kept h.
-          right-bind g.statics (at-shape t.3 (right-stored x at e u t.2 sane₁ (here-kept kept here))) (λ vs v sane₂ kept₂ hv.
+          right-bind g.statics (right-stored g x at (is_read e) u
+          (at-shape t.3 (right-value e u t.2 sane₁ (here-kept kept here))) (right-source e u t.2 sane₁ (here-kept kept here))) (λ vs v sane₂ kept₂ hv.
           right-bind g.statics (right-used_values g.statics x v vs sane₂ hv) (λ _ w sane₃ kept₃ hw. right-write g.statics x at vs w sane₃ hw)))
       right-value (Update a change e) s t sane here =
           right-bind g.statics (right-place a s t.0 sane here) (λ at u sane₁ kept h.
@@ -319,34 +329,9 @@ module _ (g : Prog) where
           right-paid g.statics (Fits (Some (Scalar (row service).result))) u.world u.fuel _ (λ left.
           right-served c.capacity service z (record { world = u.world; fuel = left }) sane₁))
 
-      pub right-stored : (x : Access) (at : Value) (e : Expr) (s : State) → IsTyped g f e → IsSoundWorld g.statics s.world → IsHere f c s.world → IsRight g.statics s.world (Fits (shape_of g e)) (stored_of c x at e s)
-      right-stored (Scalar kind) at e s t sane here = right-value e s t sane here
-      right-stored (Struct count cells) at (Read x a) s t sane here =
-          right-bind g.statics (right-place a s t.1 sane here) (λ from u sane₁ kept h.
-          right-bind g.statics (right-checked g.statics (λ w v. Unit {0}) u (source_for cells at from) sane₁ (λ v e. tt)) (λ source v sane₂ kept₂ _.
-          right-read g.statics x source v sane₂))
-      right-stored (Struct count cells) at (Constant kind z) s t sane here = right-value (Constant kind z) s t sane here
-      right-stored (Struct count cells) at (NullPointer kind) s t sane here = right-value (NullPointer kind) s t sane here
-      right-stored (Struct count cells) at (Address a) s t sane here = right-value (Address a) s t sane here
-      right-stored (Struct count cells) at (Convert kind e) s t sane here = right-value (Convert kind e) s t sane here
-      right-stored (Struct count cells) at (Unary op kind e) s t sane here = right-value (Unary op kind e) s t sane here
-      right-stored (Struct count cells) at (Binary op kind a b) s t sane here = right-value (Binary op kind a b) s t sane here
-      right-stored (Struct count cells) at (Move size back a b) s t sane here = right-value (Move size back a b) s t sane here
-      right-stored (Struct count cells) at (MoveBy size a b) s t sane here = right-value (MoveBy size a b) s t sane here
-      right-stored (Struct count cells) at (Distance size a b) s t sane here = right-value (Distance size a b) s t sane here
-      right-stored (Struct count cells) at (Compare op kind a b) s t sane here = right-value (Compare op kind a b) s t sane here
-      right-stored (Struct count cells) at (Not a) s t sane here = right-value (Not a) s t sane here
-      right-stored (Struct count cells) at (And a b) s t sane here = right-value (And a b) s t sane here
-      right-stored (Struct count cells) at (Or a b) s t sane here = right-value (Or a b) s t sane here
-      right-stored (Struct count cells) at (Choose q a b) s t sane here = right-value (Choose q a b) s t sane here
-      right-stored (Struct count cells) at (Comma a b) s t sane here = right-value (Comma a b) s t sane here
-      right-stored (Struct count cells) at (Discard a) s t sane here = right-value (Discard a) s t sane here
-      right-stored (Struct count cells) at (Assign x a e) s t sane here = right-value (Assign x a e) s t sane here
-      right-stored (Struct count cells) at (Update a change e) s t sane here = right-value (Update a change e) s t sane here
-      right-stored (Struct count cells) at (Increment a change old) s t sane here = right-value (Increment a change old) s t sane here
-      right-stored (Struct count cells) at (Part from x e) s t sane here = right-value (Part from x e) s t sane here
-      right-stored (Struct count cells) at (Call n es) s t sane here = right-value (Call n es) s t sane here
-      right-stored (Struct count cells) at (Serve service argument) s t sane here = right-value (Serve service argument) s t sane here
+      pub right-source : (e : Expr) (s : State) → IsTyped g f e → IsSoundWorld g.statics s.world → IsHere f c s.world → IsRight g.statics s.world (λ w v. Unit {0}) (source_of c e s)
+      right-source (Read x a) s t sane here = right-weaker g.statics (right-place a s t.1 sane here) (λ w v h. tt)
+      right-source _ s t sane here = right-give g.statics s Null sane tt
 
       pub right-values : (es : Exprs) (os : List LocalObject) (s : State) → AreArguments g f os es → IsSoundWorld g.statics s.world → IsHere f c s.world → IsRight g.statics s.world (ArgumentsFit os) (values_of c es s)
       right-values no_exprs [] s t sane here = right-give g.statics s [] sane tt

@@ -41,6 +41,21 @@ served capacity service z = do
   _ ← change (after_service capacity service z)
   number (serve service capacity z w.input w.output).value
 
+-- an expression is the value of a place
+abbrev pub is_read : Expr → Bool
+is_read (Read x a) = true
+is_read e = false
+
+-- the value that is stored at a place, or the source of one that is read: a struct's is this place, or has no byte in common
+-- with it (C11 6.5.16.1p3)
+abbrev pub stored : Access → Value → Bool → Run Values → Run Value → Run Values
+stored (Scalar kind) at is_read value source = value
+stored (Struct count cells) at false value source = value
+stored (Struct count cells) at true value source = do
+  from ← source
+  there ← checked (source_for cells at from)
+  read_at (Struct count cells) there
+
 module _ (c : Around) where
   abbrev pub local : ℕ → Object
   local n = record { activation = c.activation; depth = c.depth; name = Named (c.first + n) }
@@ -119,7 +134,7 @@ module _ (c : Around) where
       give []
     value_of (Assign x a e) = do
       at ← place_of a
-      vs ← stored_of x at e
+      vs ← stored x at (is_read e) (value_of e) (source_of e)
       _ ← used vs
       write_at x at vs
     value_of (Update a change e) = do
@@ -139,14 +154,10 @@ module _ (c : Around) where
       z ← number_in (value_of e)
       with_fuel (served c.capacity service z)
 
-    -- the value that an assignment stores at a place; a struct that is read for it overlaps the place whole or not at all
-    pub stored_of : Access → Value → Expr → Run Values
-    stored_of (Scalar kind) at e = value_of e
-    stored_of (Struct count cells) at (Read x a) = do
-      from ← place_of a
-      source ← checked (source_for cells at from)
-      read_at x source
-    stored_of (Struct count cells) at e = value_of e
+    -- the place that an expression reads
+    pub source_of : Expr → Run Value
+    source_of (Read x a) = place_of a
+    source_of e = give Null
 
     -- the arguments of a call, in order
     pub values_of : Exprs → Run (List Value)

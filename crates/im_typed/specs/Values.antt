@@ -61,7 +61,7 @@ abbrev pub extent : List Cell → ℕ
 extent [] = 0
 extent (c ∷ cs) = max (c.offset + kind_size c.kind) (extent cs)
 
--- where a struct is read that is stored at a place: there, or where it has no byte in common with it (C11 6.5.16.1p3)
+-- where a struct is read that is stored at a place, unless both overlap in part
 abbrev pub source_for : List Cell → Value → Value → Checked Value
 source_for cells at from = unless (not (overlap_in_part (extent cells) at from)) from PartialOverlap
 
