@@ -33,7 +33,8 @@ pub fn read_source<'a, H: Shelf>(
     ensures short { IfOk result (λ text. length text.items ≤ source_limit) }
     ensures read { MatchResult result (λ text. ReadsFile source.now text.items source_limit
         (H.state shelf.old) (H.state shelf.new))
-        (λ refusal. RefusesReading source.now (H.state shelf.old) (H.state shelf.new) (refused_of refusal)) }
+        (λ refusal. RefusesReading source.now
+        (H.state shelf.old) (H.state shelf.new) (refused_of refusal)) }
 {
     match read_whole(alloc, shelf, source, SOURCE_LIMIT) {
         Ok(text) => Ok(text),
@@ -99,7 +100,8 @@ pub fn store_image<'a, H: Shelf>(
 ) -> Result<(), Refusal<'a>>
     ensures { MatchResult result (λ stored. StoresText name.now (image_text image.now)
         (H.state shelf.old) (H.state shelf.new))
-        (λ refusal. RefusesStore name.now (image_text image.now) (H.state shelf.old) (H.state shelf.new) (refused_of refusal)) }
+        (λ refusal. RefusesStore name.now (image_text image.now)
+        (H.state shelf.old) (H.state shelf.new) (refused_of refusal)) }
 {
     let Ok(text) = write_image(alloc, image) else {
         return Err(Refusal::OutOfMemory);
@@ -120,7 +122,8 @@ pub fn compile_program<'a, H: Shelf>(
     requires { IsInBounds building }
     ensures { MatchResult result (λ whole. CompilesFrom source.now building whole.prog whole.built
         (H.state shelf.old) (H.state shelf.new))
-        (λ refusal. RefusesSource source.now (H.state shelf.old) (H.state shelf.new) (refused_of refusal)) }
+        (λ refusal. RefusesSource source.now
+        (H.state shelf.old) (H.state shelf.new) (refused_of refusal)) }
 {
     let text = match read_source(alloc, shelf, source) {
         Ok(text) => text,
@@ -142,7 +145,8 @@ pub fn compile_source<'a, H: Shelf>(
     requires { IsInBounds building }
     ensures { MatchResult result (λ built. Compiles source.now building built (H.state shelf.old)
         (H.state shelf.new))
-        (λ refusal. RefusesSource source.now (H.state shelf.old) (H.state shelf.new) (refused_of refusal)) }
+        (λ refusal. RefusesSource source.now
+        (H.state shelf.old) (H.state shelf.new) (refused_of refusal)) }
 {
     let text = match read_source(alloc, shelf, source) {
         Ok(text) => text,
@@ -165,7 +169,8 @@ pub fn build<'a, H: Shelf>(
     requires { IsInBounds building }
     ensures { MatchResult result (λ built. Builds source.now image_name.now building built
         (H.state shelf.old) (H.state shelf.new))
-        (λ refusal. RefusesBuild source.now image_name.now building (H.state shelf.old) (H.state shelf.new) (refused_of refusal)) }
+        (λ refusal. RefusesBuild source.now image_name.now building
+        (H.state shelf.old) (H.state shelf.new) (refused_of refusal)) }
 {
     let built = match compile_source(alloc, shelf, source, building) {
         Ok(built) => built,

@@ -31,7 +31,7 @@ pub enum LineFault {
 pub enum Quantity {
     /// Bytes of the source, at most 4194304.
     Source,
-    /// Parameters of one function, at most 8.
+    /// Words of the parameters of one function, at most 8.
     Parameters,
     /// Bytes of one type, at most 1048576.
     Size,

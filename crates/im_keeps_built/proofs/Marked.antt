@@ -38,7 +38,7 @@ use Rattle.im_select.specs.declared.branching.Test.{Test}
 use Rattle.im_select.specs.declared.distance.Distance.{Distance as Reach}
 use Rattle.im_select.specs.declared.distance.Distance.TheVariants.{Near, Far}
 use Rattle.im_select.specs.declared.folding.Constant.{Constant}
-use Rattle.im_select.specs.Emitted.{high_of, low_of, constant_by, constant_code, displaced_by, displaced_code, adds_by, adds_code, place_number, place_code, moved_code, copied_code, step_op, shift_of, shifts_code, scaled_code, based_code, address_code, computed_code, constant_line, comparison_line, compared_code, weighed_code, passed_by, by_or, stored_from, way_code, line_code, lines_code, behind_each, onward_code, test_op, test_code, test_or, taken_test, own_lines, is_next, branch_code, exit_code, is_empty, result_code, leave_code, block_code, kept_order, Laying, leads_of, next_label, found_code, laid_block, laid_code, blocks_code, prologue_code, function_code, labelled, entry_label}
+use Rattle.im_select.specs.Emitted.{high_of, low_of, constant_by, constant_code, displaced_by, displaced_code, adds_by, adds_code, place_number, place_code, moved_code, copied_code, step_op, shift_of, shifts_code, scaled_code, based_code, address_code, computed_code, constant_line, comparison_line, compared_code, comparison_rest, passed_by, by_or, stored_from, way_code, line_code, lines_code, behind_each, onward_code, test_op, test_code, test_or, taken_test, own_lines, is_next, branch_code, exit_code, is_empty, result_code, leave_code, block_code, kept_order, Laying, leads_of, next_label, found_code, laid_block, laid_code, blocks_code, prologue_code, function_code, labelled, entry_label}
 use Rattle.im_select.specs.Selects.{laying_of}
 use Rattle.im_link_laws.specs.Program.{HasCode, part_of, given_at, start_code, IsProgram}
 use Rattle.im_saved_code.specs.Scan.{way}
@@ -191,7 +191,7 @@ line_marked at m (Call to i first count) = (refl, tt)
 line_marked at m (Serve to service None) = (refl, tt)
 line_marked at m (Serve to service (Some from)) = (refl, tt)
 
-weighed_marked : (to : ℕ) (op : Comparison) (n : ℕ) → AreMarked (weighed_code to op n)
+weighed_marked : (to : ℕ) (op : Comparison) (n : ℕ) → AreMarked (comparison_rest to op n)
 weighed_marked to Less n = tt
 weighed_marked to Greater n = (refl, tt)
 weighed_marked to LessOrEqual n = tt
@@ -221,7 +221,7 @@ way_marked at m passed (Some c) (Compute to op kind left right) = by (constant_l
 way_marked at m passed None (Compare to op kind left right) = line_marked at m (Compare to op kind left right)
 way_marked at m passed (Some c) (Compare to op kind left right) = by (comparison_line to op kind left right c) refl
   where
-    by : (o : Option Instruction) → comparison_line to op kind left right c ≡ o → AreMarked (by_or (compared_code to (less_op kind) left right op) o (weighed_code to op c.word))
+    by : (o : Option Instruction) → comparison_line to op kind left right c ≡ o → AreMarked (by_or (compared_code to (less_op kind) left right op) o (comparison_rest to op c.word))
     by None e = line_marked at m (Compare to op kind left right)
     by (Some l) e = (unlinked l.op l.rd (comparison_way to op kind left right c l e), weighed_marked to op c.word)
 way_marked at m passed before (Write place kind from access) = line_marked at m (Write place kind (stored_from before from) access)

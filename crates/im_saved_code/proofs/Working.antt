@@ -24,7 +24,7 @@ use Rattle.im_block.specs.declared.code.Line.TheVariants.{Put, PutNull, Copy, Co
 use Rattle.im_alloc_relation.specs.Live.{uses, sets, place_uses}
 use Rattle.im_live.specs.Reads.{writes}
 use Rattle.im_select.specs.declared.folding.Constant.{Constant}
-use Rattle.im_select.specs.Emitted.{high_of, low_of, constant_code, displaced_code, displaced_base, place_number, place_code, place_base, moved_code, copied_code, compared_code, shifted_code, step_op, shift_of, multiplied_code, shifts_code, scaled_code, pointer_code, based_code, address_code, computed_code, by_low, by_bits, negated, above, immediate_line, constant_line, below_line, weighing_line, weighed_code, comparison_line, by_or, stored_from, way_code, line_code}
+use Rattle.im_select.specs.Emitted.{high_of, low_of, constant_code, displaced_code, displaced_base, place_number, place_code, place_base, moved_code, copied_code, compared_code, shifted_code, step_op, shift_of, multiplied_code, shifts_code, scaled_code, pointer_code, based_code, address_code, computed_code, by_low, by_bits, negated, above, immediate_line, constant_line, below_line, comparison_start, comparison_rest, comparison_line, by_or, stored_from, way_code, line_code}
 use Rattle.im_select.proofs.Pairing.{Spent, Takes, OnRight, OnLeft, Weighs, Stores, right_code, left_code, weighs_code, low_is, below_is, above_small, ZeroOr, IsNone, IsSome, zero_or, immediate_of}
 use Rattle.im_saved_code.specs.Scan.{way}
 use Rattle.im_saved_code.proofs.Scanning.{IsUnsaved, unsaved_not, either, other_is, or_left, or_right, same_of, same_is, ArePlain, plain_append, Wants, wants_append}
@@ -165,7 +165,7 @@ zero_way zero left n l w = by (n == 0)
     by true e = let s : zero ≡ l = cc in subst (λ (x : Instruction). way x.op ≡ Passes) s w
     by false e = low_way Addi 5 left (negated n) l refl e
 
-weighing_way : (to : ℕ) (op : Comparison) (kind : Kind) (left n : ℕ) (l : Instruction) → weighing_line to op kind left n ≡ Some l → way l.op ≡ Passes
+weighing_way : (to : ℕ) (op : Comparison) (kind : Kind) (left n : ℕ) (l : Instruction) → comparison_start to op kind left n ≡ Some l → way l.op ≡ Passes
 weighing_way to Less kind left n l e = low_way (less_by kind) to left n l (slt_way (is_signed kind)) e
 weighing_way to Greater kind left n l e = below_way to kind left (above n) l e
 weighing_way to LessOrEqual kind left n l e = below_way to kind left (above n) l e
@@ -176,12 +176,12 @@ weighing_way to NotEqual kind left n l e = zero_way (on_registers Sltu to 0 left
 pub comparison_way : (to : ℕ) (op : Comparison) (kind : Kind) (left right : ℕ) (c : Constant) (l : Instruction) → comparison_line to op kind left right c ≡ Some l → way l.op ≡ Passes
 comparison_way to op kind left right c l = by (right == c.register) (left == c.register)
   where
-    by : (p q : Bool) → (if p && not q then weighing_line to op kind left c.word else None) ≡ Some l → way l.op ≡ Passes
+    by : (p q : Bool) → (if p && not q then comparison_start to op kind left c.word else None) ≡ Some l → way l.op ≡ Passes
     by true false e = weighing_way to op kind left c.word l e
     by true true e = absurd cc
     by false q e = absurd cc
 
-weighed_plain : (to : ℕ) (op : Comparison) (n : ℕ) → ArePlain (weighed_code to op n)
+weighed_plain : (to : ℕ) (op : Comparison) (n : ℕ) → ArePlain (comparison_rest to op n)
 weighed_plain to Less n = tt
 weighed_plain to Greater n = ((refl, refl), tt)
 weighed_plain to LessOrEqual n = tt
@@ -212,7 +212,7 @@ way_plain at m passed (Some c) (Compute to op kind left right) work = by (consta
 way_plain at m passed None (Compare to op kind left right) work = work_plain at m (Compare to op kind left right) work
 way_plain at m passed (Some c) (Compare to op kind left right) work = by (comparison_line to op kind left right c) refl
   where
-    by : (o : Option Instruction) → comparison_line to op kind left right c ≡ o → ArePlain (by_or (compared_code to (less_op kind) left right op) o (weighed_code to op c.word))
+    by : (o : Option Instruction) → comparison_line to op kind left right c ≡ o → ArePlain (by_or (compared_code to (less_op kind) left right op) o (comparison_rest to op c.word))
     by None e = work_plain at m (Compare to op kind left right) work
     by (Some l) e = ((comparison_way to op kind left right c l e, refl), weighed_plain to op c.word)
 way_plain at m passed before (Write place kind from access) work = work_plain at m (Write place kind (stored_from before from) access) work
@@ -328,11 +328,11 @@ module _ (X : Type 0) (r : ℕ) (u : IsUnsaved r) where
   unequal_of left n to l rest (IsNone e) w = zero_one_of left to w
   unequal_of left n to l rest IsSome w = zero_five_of left to w
 
-  weighed_of : (to : ℕ) (op : Comparison) (kind : Kind) (left n : ℕ) (l : Instruction) → n < 2 ^ 32 → weighing_line to op kind left n ≡ Some l → Wants (plain_line l ∷ weighed_code to op n) X r → Wanted (r == left) to
+  weighed_of : (to : ℕ) (op : Comparison) (kind : Kind) (left n : ℕ) (l : Instruction) → n < 2 ^ 32 → comparison_start to op kind left n ≡ Some l → Wants (plain_line l ∷ comparison_rest to op n) X r → Wanted (r == left) to
   weighed_of to Less kind left n l small e w = one_of left to (subst (λ x. Wants (plain_line x ∷ []) X r) (low_is (less_by kind) to left n l small e) w)
-  weighed_of to Greater kind left n l small e w = one_twice left to (subst (λ x. Wants (plain_line x ∷ weighed_code to Greater n) X r) (below_is to kind left (above n) l (above_small n) e).1 w)
+  weighed_of to Greater kind left n l small e w = one_twice left to (subst (λ x. Wants (plain_line x ∷ comparison_rest to Greater n) X r) (below_is to kind left (above n) l (above_small n) e).1 w)
   weighed_of to LessOrEqual kind left n l small e w = one_of left to (subst (λ x. Wants (plain_line x ∷ []) X r) (below_is to kind left (above n) l (above_small n) e).1 w)
-  weighed_of to GreaterOrEqual kind left n l small e w = one_twice left to (subst (λ x. Wants (plain_line x ∷ weighed_code to GreaterOrEqual n) X r) (low_is (less_by kind) to left n l small e) w)
+  weighed_of to GreaterOrEqual kind left n l small e w = one_twice left to (subst (λ x. Wants (plain_line x ∷ comparison_rest to GreaterOrEqual n) X r) (low_is (less_by kind) to left n l small e) w)
   weighed_of to Equal kind left n l small e w = equal_of left n to l _ (zero_or n (with_immediate Sltiu to left 1) left (plain_line (with_immediate Sltiu to 5 1)) l small e) w
   weighed_of to NotEqual kind left n l small e w = unequal_of left n to l _ (zero_or n (on_registers Sltu to 0 left) left (plain_line (on_registers Sltu to 0 5)) l small e) w
 
@@ -509,7 +509,7 @@ taker_wants at m lives c user small (OnLeft to op kind right l ne spent turns e)
     let v : Wants (plain_line l ∷ []) X r = subst (λ z. Wants z X r) (left_code to op kind right c l ne turns e) w in
     elim (one_of X r u right to (subst (λ x. Wants (plain_line x ∷ []) X r) i.line v)) [ inl a ↦ inl (one_right r right c.register ne a) | inr b ↦ inr b ]
 taker_wants at m lives c user small (Weighs to op kind left l ne spent e) X r u w =
-    let v : Wants (plain_line l ∷ weighed_code to op c.word) X r = subst (λ z. Wants z X r) (weighs_code to op kind left c l ne e) w in
+    let v : Wants (plain_line l ∷ comparison_rest to op c.word) X r = subst (λ z. Wants z X r) (weighs_code to op kind left c l ne e) w in
     elim (weighed_of X r u to op kind left c.word l small e v) [ inl a ↦ inl (one_left r left c.register ne a) | inr b ↦ inr b ]
 taker_wants at m lives c user small (Stores place kind access zero apart unread) X r u w = elim (work_wants at m (Write place kind 0 access) tt X r u w) [
   | inl a ↦ elim (either (place_uses place r) (r == 0) a) [

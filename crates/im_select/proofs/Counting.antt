@@ -29,7 +29,7 @@ use Rattle.im_select.specs.declared.branching.Test.{Test}
 use Rattle.im_select.specs.declared.distance.Distance.{Distance}
 use Rattle.im_select.specs.declared.distance.Distance.TheVariants.{Near, Far}
 use Rattle.im_select.specs.declared.folding.Constant.{Constant}
-use Rattle.im_select.specs.Emitted.{high_of, low_of, constant_by, constant_code, displaced_by, displaced_code, displaced_base, step_op, adds_by, adds_code, place_number, place_code, place_base, moved_code, copied_code, shift_of, shifts_code, scaled_code, scaled_register, based_code, address_code, computed_code, constant_line, comparison_line, compared_code, weighed_code, passed_by, by_or, stored_from, way_code, line_code, lines_code, behind_each, onward_code, test_code, test_or, taken_test, own_lines, is_next, branch_code, exit_code, is_empty, ended_code, block_code, Laying, leads_of, next_label, found_code, laid_block, laid_code, laid_order, kept_order, blocks_code, enter_code, prologue_code, function_code, labelled, entry_label}
+use Rattle.im_select.specs.Emitted.{high_of, low_of, constant_by, constant_code, displaced_by, displaced_code, displaced_base, step_op, adds_by, adds_code, place_number, place_code, place_base, moved_code, copied_code, shift_of, shifts_code, scaled_code, scaled_register, based_code, address_code, computed_code, constant_line, comparison_line, compared_code, comparison_rest, passed_by, by_or, stored_from, way_code, line_code, lines_code, behind_each, onward_code, test_code, test_or, taken_test, own_lines, is_next, branch_code, exit_code, is_empty, ended_code, block_code, Laying, leads_of, next_label, found_code, laid_block, laid_code, laid_order, kept_order, blocks_code, enter_code, prologue_code, function_code, labelled, entry_label}
 use Rattle.im_select.proofs.Taking.{takes}
 use Rattle.im_select.proofs.Following.{led_words, kept_cost}
 use Rattle.im_select.proofs.Ordering.{cost_found, cost_in, order_cost}
@@ -128,7 +128,7 @@ few at m (Call to i first count) h = omega arith
 few at m (Serve to service None) h = omega arith
 few at m (Serve to service (Some from)) h = omega arith
 
-weighed_few : (to : ℕ) (op : Comparison) (n : ℕ) → length (weighed_code to op n) ≤ 1
+weighed_few : (to : ℕ) (op : Comparison) (n : ℕ) → length (comparison_rest to op n) ≤ 1
 weighed_few to Less n = omega arith
 weighed_few to Greater n = omega arith
 weighed_few to LessOrEqual n = omega arith
@@ -159,7 +159,7 @@ way_few at m passed (Some c) (Compute to op kind left right) h = by (constant_li
 way_few at m passed None (Compare to op kind left right) h = few at m (Compare to op kind left right) h
 way_few at m passed (Some c) (Compare to op kind left right) h = by (comparison_line to op kind left right c)
   where
-    by : (o : Option Instruction) → length (by_or (compared_code to (less_op kind) left right op) o (weighed_code to op c.word)) + 1 ≤ with_cut (Compare to op kind left right)
+    by : (o : Option Instruction) → length (by_or (compared_code to (less_op kind) left right op) o (comparison_rest to op c.word)) + 1 ≤ with_cut (Compare to op kind left right)
     by None = few at m (Compare to op kind left right) h
     by (Some l) = let q = weighed_few to op c.word in omega arith
 way_few at m passed before (Write place kind from access) h = few at m (Write place kind (stored_from before from) access) h

@@ -23,7 +23,7 @@ use Rattle.im_select.specs.declared.branching.Test.{Test}
 use Rattle.im_select.specs.declared.distance.Distance.{Distance}
 use Rattle.im_select.specs.declared.distance.Distance.TheVariants.{Near, Far}
 use Rattle.im_select.specs.declared.folding.Constant.{Constant}
-use Rattle.im_select.specs.Emitted.{constant_code, displaced_code, adds_code, place_number, place_code, copied_code, scaled_code, address_code, call_code, computed_code, constant_line, comparison_line, compared_code, weighed_code, passed_by, by_or, stored_from, way_code, line_code, lines_code, behind_each, leave_code, result_code, onward_code, test_op, test_code, test_or, taken_test, own_lines, taking_code, is_next, branch_code, exit_code, is_empty, Laying, leads_of, next_label, found_code, laid_block, laid_code, laid_order, kept_order, blocks_code, enter_code, prologue_code, function_code, labelled, entry_label}
+use Rattle.im_select.specs.Emitted.{constant_code, displaced_code, adds_code, place_number, place_code, copied_code, scaled_code, address_code, call_code, computed_code, constant_line, comparison_line, compared_code, comparison_rest, passed_by, by_or, stored_from, way_code, line_code, lines_code, behind_each, leave_code, result_code, onward_code, test_op, test_code, test_or, taken_test, own_lines, taking_code, is_next, branch_code, exit_code, is_empty, Laying, leads_of, next_label, found_code, laid_block, laid_code, laid_order, kept_order, blocks_code, enter_code, prologue_code, function_code, labelled, entry_label}
 use Rattle.im_select.specs.Leads.{led}
 use Rattle.im_select_relation.specs.Selected.{IsEntry}
 use Rattle.im_select.specs.Places.{CallsBelow}
@@ -103,9 +103,9 @@ way_sound names whole at m passed (Some c) (Compute to op kind left right) o h =
 way_sound names whole at m passed None (Compare to op kind left right) o h = line_sound names whole at m (Compare to op kind left right) o h
 way_sound names whole at m passed (Some c) (Compare to op kind left right) o h = by (comparison_line to op kind left right c)
   where
-    by : (i : Option Instruction) → Sound names whole (by_or (compared_code to (less_op kind) left right op) i (weighed_code to op c.word))
+    by : (i : Option Instruction) → Sound names whole (by_or (compared_code to (less_op kind) left right op) i (comparison_rest to op c.word))
     by None = line_sound names whole at m (Compare to op kind left right) o h
-    by (Some l) = bare names whole (plain_line l ∷ weighed_code to op c.word) (refl, weighed_bare to op c.word)
+    by (Some l) = bare names whole (plain_line l ∷ comparison_rest to op c.word) (refl, weighed_bare to op c.word)
 way_sound names whole at m passed before (Write place kind from access) o h = line_sound names whole at m (Write place kind (stored_from before from) access) o h
 way_sound names whole at m passed before line o h = line_sound names whole at m line o h
 

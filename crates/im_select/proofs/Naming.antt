@@ -21,7 +21,7 @@ use Rattle.im_select.specs.declared.branching.Test.{Test}
 use Rattle.im_select.specs.declared.distance.Distance.{Distance}
 use Rattle.im_select.specs.declared.distance.Distance.TheVariants.{Near, Far}
 use Rattle.im_select.specs.declared.folding.Constant.{Constant}
-use Rattle.im_select.specs.Emitted.{constant_code, displaced_code, adds_code, place_number, place_code, copied_code, scaled_code, address_code, computed_code, constant_line, comparison_line, compared_code, weighed_code, passed_by, by_or, stored_from, way_code, line_code, lines_code, behind_each, onward_code, test_code, test_or, taken_test, own_lines, is_next, branch_code, exit_code, is_empty, block_code, Laying, leads_of, next_label, found_code, laid_block, laid_code, laid_order, kept_order, blocks_code, enter_code, prologue_code, function_code, labelled, entry_label}
+use Rattle.im_select.specs.Emitted.{constant_code, displaced_code, adds_code, place_number, place_code, copied_code, scaled_code, address_code, computed_code, constant_line, comparison_line, compared_code, comparison_rest, passed_by, by_or, stored_from, way_code, line_code, lines_code, behind_each, onward_code, test_code, test_or, taken_test, own_lines, is_next, branch_code, exit_code, is_empty, block_code, Laying, leads_of, next_label, found_code, laid_block, laid_code, laid_order, kept_order, blocks_code, enter_code, prologue_code, function_code, labelled, entry_label}
 use Rattle.im_select.specs.Selects.{accesses_in, causes_in, causes_of_line, causes_of_lines, causes_of_blocks, if_found, blocks_at, laid_blocks}
 use Rattle.im_select.proofs.Following.{kept_accesses, kept_causes}
 use Rattle.im_select.proofs.Taking.{IsTaken, Nothing, Comparing, Zeroing, zero_line, takes}
@@ -107,9 +107,9 @@ way_accesses at m passed (Some c) (Compute to op kind left right) = by (constant
 way_accesses at m passed None (Compare to op kind left right) = line_accesses at m (Compare to op kind left right)
 way_accesses at m passed (Some c) (Compare to op kind left right) = by (comparison_line to op kind left right c)
   where
-    by : (o : Option Instruction) → accesses_in (by_or (compared_code to (less_op kind) left right op) o (weighed_code to op c.word)) ≡ []
+    by : (o : Option Instruction) → accesses_in (by_or (compared_code to (less_op kind) left right op) o (comparison_rest to op c.word)) ≡ []
     by None = line_accesses at m (Compare to op kind left right)
-    by (Some l) = bare_accesses (weighed_code to op c.word) (weighed_bare to op c.word)
+    by (Some l) = bare_accesses (comparison_rest to op c.word) (weighed_bare to op c.word)
 way_accesses at m passed before (Write place kind from access) = line_accesses at m (Write place kind (stored_from before from) access)
 way_accesses at m passed before line = line_accesses at m line
 
@@ -127,9 +127,9 @@ way_causes at m passed (Some c) (Compute to op kind left right) = by (constant_l
 way_causes at m passed None (Compare to op kind left right) = line_causes at m (Compare to op kind left right)
 way_causes at m passed (Some c) (Compare to op kind left right) = by (comparison_line to op kind left right c)
   where
-    by : (o : Option Instruction) → causes_in (by_or (compared_code to (less_op kind) left right op) o (weighed_code to op c.word)) ≡ []
+    by : (o : Option Instruction) → causes_in (by_or (compared_code to (less_op kind) left right op) o (comparison_rest to op c.word)) ≡ []
     by None = line_causes at m (Compare to op kind left right)
-    by (Some l) = bare_causes (weighed_code to op c.word) (weighed_bare to op c.word)
+    by (Some l) = bare_causes (comparison_rest to op c.word) (weighed_bare to op c.word)
 way_causes at m passed before (Write place kind from access) = line_causes at m (Write place kind (stored_from before from) access)
 way_causes at m passed before line = line_causes at m line
 

@@ -27,7 +27,7 @@ use Rattle.im_live.specs.Reads.{lives_before, reads_first, IsLive}
 use Rattle.im_live.proofs.Paths.{lives_more}
 use Rattle.im_select_relation.specs.Selected.{IsConstant, ConstantNumber, ConstantNull, Immediate, AddsBy, SubtractsBy, AndsBy, OrsBy, XorsBy, ShiftsLeftBy, ShiftsRightBy, IsUnread}
 use Rattle.im_select.specs.declared.folding.Constant.{Constant}
-use Rattle.im_select.specs.Emitted.{high_of, low_of, by_low, by_bits, negated, above, immediate_line, below_line, weighing_line, weighed_code, is_spent, is_taken, passed_to, passed_by, by_or, operated_code, decided_code, computed_code, compared_code, way_code, line_code, lines_code}
+use Rattle.im_select.specs.Emitted.{high_of, low_of, by_low, by_bits, negated, above, immediate_line, below_line, comparison_start, comparison_rest, is_spent, is_taken, passed_to, passed_by, by_or, operated_code, compared_with_code, computed_code, compared_code, way_code, line_code, lines_code}
 use Rattle.im_select_relation.specs.Symbolic.{Lines, Plain, ComparedByIn, LesserBy, NotLesserBy, NotLargerBy, LargerBy, SameZero, SameBy, OtherZero, OtherBy}
 use Rattle.im_select.proofs.Ordering.{same_number}
 use Rattle.im_select.proofs.Standing.{At, after}
@@ -67,7 +67,7 @@ Spent lives to r = (r ≡ to) ⊎ (lives r ≡ false)
 pub data Takes (lives : ℕ → Bool) (c : Constant) : Line → Type 0 where
   OnRight : (to : ℕ) (op : BinaryOp) (kind : Kind) (left : ℕ) (l : Instruction) → left ≢ c.register → Spent lives to c.register → immediate_line to op kind left c.word ≡ Some l → Takes lives c (Compute to op kind left c.register)
   OnLeft : (to : ℕ) (op : BinaryOp) (kind : Kind) (right : ℕ) (l : Instruction) → right ≢ c.register → Spent lives to c.register → commutes op ≡ true → immediate_line to op kind right c.word ≡ Some l → Takes lives c (Compute to op kind c.register right)
-  Weighs : (to : ℕ) (op : Comparison) (kind : Kind) (left : ℕ) (l : Instruction) → left ≢ c.register → Spent lives to c.register → weighing_line to op kind left c.word ≡ Some l → Takes lives c (Compare to op kind left c.register)
+  Weighs : (to : ℕ) (op : Comparison) (kind : Kind) (left : ℕ) (l : Instruction) → left ≢ c.register → Spent lives to c.register → comparison_start to op kind left c.word ≡ Some l → Takes lives c (Compare to op kind left c.register)
   Stores : (place : Place) (kind : Kind) (access : ℕ) → c.word ≡ 0 → place_uses place c.register ≡ false → lives c.register ≡ false → Takes lives c (Write place kind c.register access)
 
 -- a constant that a line passes on
@@ -104,9 +104,9 @@ computes_takes lives c to op kind left right = by (right == c.register) (left ==
     by false true true a (Some l) false e f g h i k v = absurd cc
 
 compares_takes : (lives : ℕ → Bool) (c : Constant) (to : ℕ) (op : Comparison) (kind : Kind) (left right : ℕ) → is_taken lives c (Compare to op kind left right) ≡ true → Takes lives c (Compare to op kind left right)
-compares_takes lives c to op kind left right = by (right == c.register) (left == c.register) (weighing_line to op kind left c.word) (is_spent lives to c.register) refl refl refl refl
+compares_takes lives c to op kind left right = by (right == c.register) (left == c.register) (comparison_start to op kind left c.word) (is_spent lives to c.register) refl refl refl refl
   where
-    by : (p q : Bool) (a : Option Instruction) (t : Bool) → (right == c.register) ≡ p → (left == c.register) ≡ q → weighing_line to op kind left c.word ≡ a → is_spent lives to c.register ≡ t → (is_some (if p && not q then a else None) && t) ≡ true → Takes lives c (Compare to op kind left right)
+    by : (p q : Bool) (a : Option Instruction) (t : Bool) → (right == c.register) ≡ p → (left == c.register) ≡ q → comparison_start to op kind left c.word ≡ a → is_spent lives to c.register ≡ t → (is_some (if p && not q then a else None) && t) ≡ true → Takes lives c (Compare to op kind left right)
     by true false (Some l) true e f h k v = subst (λ x. Takes lives c (Compare to op kind left x)) (sym (same_number right c.register e)) (Weighs to op kind left l (other left c.register f) (spent_of lives to c.register k) h)
     by true true a t e f h k v = absurd cc
     by true false None t e f h k v = absurd cc
@@ -175,13 +175,13 @@ left_code to op kind right c l ne turns e =
     ∙ ap (λ b. by_or (computed_code to op kind c.register right) (if b then immediate_line to op kind right c.word else None) []) turns
     ∙ ap (λ o. by_or (computed_code to op kind c.register right) o []) e
 
-pub weighs_code : (to : ℕ) (op : Comparison) (kind : Kind) (left : ℕ) (c : Constant) (l : Instruction) → left ≢ c.register → weighing_line to op kind left c.word ≡ Some l → decided_code (Some c) to op kind left c.register ≡ plain_line l ∷ weighed_code to op c.word
+pub weighs_code : (to : ℕ) (op : Comparison) (kind : Kind) (left : ℕ) (c : Constant) (l : Instruction) → left ≢ c.register → comparison_start to op kind left c.word ≡ Some l → compared_with_code (Some c) to op kind left c.register ≡ plain_line l ∷ comparison_rest to op c.word
 weighs_code to op kind left c l ne e =
     let same : (c.register == c.register) ≡ true = grind (arith, nat_tests) in
     let code : List CodeLine = compared_code to (less_op kind) left c.register op in
-    let rest : List CodeLine = weighed_code to op c.word in
-    ap (λ b. by_or code (if b && not (left == c.register) then weighing_line to op kind left c.word else None) rest) same
-    ∙ ap (λ b. by_or code (if not b then weighing_line to op kind left c.word else None) rest) (not_same left c.register ne)
+    let rest : List CodeLine = comparison_rest to op c.word in
+    ap (λ b. by_or code (if b && not (left == c.register) then comparison_start to op kind left c.word else None) rest) same
+    ∙ ap (λ b. by_or code (if not b then comparison_start to op kind left c.word else None) rest) (not_same left c.register ne)
     ∙ ap (λ o. by_or code o rest) e
 
 -- a word of a constant is one
@@ -258,7 +258,7 @@ unequal_in : (w : Lines) (k to : ℕ) (kind : Kind) (left n : ℕ) (l : Instruct
 unequal_in w k to kind left n l rest small (IsNone z) a = OtherZero z a.0
 unequal_in w k to kind left n l rest small IsSome a = OtherBy (negated n) (negated_sum n small) a.0 a.1.0
 
-pub weighs_in : (w : Lines) (k to : ℕ) (op : Comparison) (kind : Kind) (left n : ℕ) (l : Instruction) → n < 2 ^ 32 → weighing_line to op kind left n ≡ Some l → At w k (plain_line l ∷ weighed_code to op n) → ComparedByIn w k to kind left n op (after k (plain_line l ∷ weighed_code to op n))
+pub weighs_in : (w : Lines) (k to : ℕ) (op : Comparison) (kind : Kind) (left n : ℕ) (l : Instruction) → n < 2 ^ 32 → comparison_start to op kind left n ≡ Some l → At w k (plain_line l ∷ comparison_rest to op n) → ComparedByIn w k to kind left n op (after k (plain_line l ∷ comparison_rest to op n))
 weighs_in w k to Less kind left n l small e a = LesserBy (subst (λ x. Plain w k x) (low_is (less_by kind) to left n l small e) a.0)
 weighs_in w k to GreaterOrEqual kind left n l small e a = NotLesserBy (subst (λ x. Plain w k x) (low_is (less_by kind) to left n l small e) a.0) a.1.0
 weighs_in w k to LessOrEqual kind left n l small e a = let q = below_is to kind left (above n) l (above_small n) e in NotLargerBy (above n) refl q.0 (subst (λ x. Plain w k x) q.1 a.0)

@@ -27,7 +27,7 @@ use Rattle.im_select.specs.declared.branching.Test.{Test}
 use Rattle.im_select.specs.declared.branching.Test.TheVariants.{Nonzero, Compares, ComparesZero}
 use Rattle.im_select.specs.declared.distance.Distance.{Distance}
 use Rattle.im_select.specs.declared.distance.Distance.TheVariants.{Near, Far}
-use Rattle.im_select.specs.Emitted.{adds_code, leave_code, is_next, onward_code, both_ways, test_line, test_code, branch_code, exit_code, passed_by, place_number, place_code, keep_code, line_code, way_code, weighed_code, lines_code, enter_code, prologue_code}
+use Rattle.im_select.specs.Emitted.{adds_code, leave_code, is_next, onward_code, both_ways, test_line, test_code, branch_code, exit_code, passed_by, place_number, place_code, keep_code, line_code, way_code, comparison_rest, lines_code, enter_code, prologue_code}
 use Rattle.im_select.specs.Given.{Given}
 use Rattle.im_select.specs.Places.{CallsBelow}
 use Rattle.im_select.specs.Selects.{Agrees, block_label}
@@ -168,7 +168,7 @@ module _ (w : Lines) (given : Given) (own : Name → ℕ) (live : ℕ → ℕ �
       (ComputesFrom to op kind right rest exit i.by i.imm p.0 p.2 ne p.3 turns i.is (spent_there to spent) (subst (λ x. Plain w k x) i.line b.0))
   takes_in user (Weighs to op kind left l ne spent e) p s t a =
       let same = weighs_code to op kind left c l ne e in
-      let b : At w k (plain_line l ∷ weighed_code to op c.word) = subst (At w k) same a in
+      let b : At w k (plain_line l ∷ comparison_rest to op c.word) = subst (At w k) same a in
       subst (λ x. FoldedIn w blocks_ k c.register c.word (Compare to op kind left c.register) rest exit (after k x)) (sym same)
       (ComparesBy to op kind left rest exit _ p.0 p.1 ne p.3 (spent_there to spent) (weighs_in w k to op kind left c.word l small e b))
   takes_in user (Stores place kind access zero apart unread) p s t a =

@@ -9,7 +9,7 @@ use Rattle.im_store.specs.declared.operators.Comparison.TheVariants.{Less, Great
 use Rattle.im_block.specs.declared.code.Place.{Place}
 use Rattle.im_block.specs.declared.code.Place.TheVariants.{Static, Local, Through}
 use Rattle.im_select.specs.Given.{Given}
-use Rattle.im_select.specs.Emitted.{high_of, low_of, constant_by, constant_code, displaced_by, displaced_code, adds_by, adds_code, place_code, moved_code, copied_code, shift_of, shifts_code, scaled_code, based_code, address_code, weighed_code, labelled}
+use Rattle.im_select.specs.Emitted.{high_of, low_of, constant_by, constant_code, displaced_by, displaced_code, adds_by, adds_code, place_code, moved_code, copied_code, shift_of, shifts_code, scaled_code, based_code, address_code, comparison_rest, labelled}
 use Rattle.im_select.specs.Selects.{if_any, accesses_in, causes_in, HasLabel, LeadsTo}
 
 -- instructions and nothing else
@@ -210,7 +210,7 @@ length_labelled l [] = refl
 length_labelled l (x ∷ xs) = refl
 
 -- behind the first instruction of a comparison with a word
-pub weighed_bare : (to : ℕ) (op : Comparison) (n : ℕ) → Bare (weighed_code to op n)
+pub weighed_bare : (to : ℕ) (op : Comparison) (n : ℕ) → Bare (comparison_rest to op n)
 weighed_bare to Less n = tt
 weighed_bare to Greater n = (refl, tt)
 weighed_bare to LessOrEqual n = tt

@@ -265,32 +265,33 @@ below_line to kind left n = if n == least kind then None else by_low (less_by ki
 abbrev pub equal_line : ℕ → ℕ → ℕ → Option Instruction
 equal_line to left n = if n == 0 then Some (with_immediate Sltiu to left 1) else by_low Addi 5 left (negated n)
 
+-- whether a register is 0, or isn't, into `to`; of another word, the register less that word into x5
 abbrev pub unequal_line : ℕ → ℕ → ℕ → Option Instruction
 unequal_line to left n = if n == 0 then Some (on_registers Sltu to 0 left) else by_low Addi 5 left (negated n)
 
 -- a comparison with a word on its right: its first instruction, if there is one with an immediate
-abbrev pub weighing_line : ℕ → Comparison → Kind → ℕ → ℕ → Option Instruction
-weighing_line to Less kind left n = by_low (less_by kind) to left n
-weighing_line to Greater kind left n = below_line to kind left (above n)
-weighing_line to LessOrEqual kind left n = below_line to kind left (above n)
-weighing_line to GreaterOrEqual kind left n = by_low (less_by kind) to left n
-weighing_line to Equal kind left n = equal_line to left n
-weighing_line to NotEqual kind left n = unequal_line to left n
+abbrev pub comparison_start : ℕ → Comparison → Kind → ℕ → ℕ → Option Instruction
+comparison_start to Less kind left n = by_low (less_by kind) to left n
+comparison_start to Greater kind left n = below_line to kind left (above n)
+comparison_start to LessOrEqual kind left n = below_line to kind left (above n)
+comparison_start to GreaterOrEqual kind left n = by_low (less_by kind) to left n
+comparison_start to Equal kind left n = equal_line to left n
+comparison_start to NotEqual kind left n = unequal_line to left n
 
 -- and what is behind that
-abbrev pub weighed_code : ℕ → Comparison → ℕ → List CodeLine
-weighed_code to Less n = []
-weighed_code to Greater n = plain_line (with_immediate Xori to to 1) ∷ []
-weighed_code to LessOrEqual n = []
-weighed_code to GreaterOrEqual n = plain_line (with_immediate Xori to to 1) ∷ []
-weighed_code to Equal n = if n == 0 then [] else plain_line (with_immediate Sltiu to 5 1) ∷ []
-weighed_code to NotEqual n = if n == 0 then [] else plain_line (on_registers Sltu to 0 5) ∷ []
+abbrev pub comparison_rest : ℕ → Comparison → ℕ → List CodeLine
+comparison_rest to Less n = []
+comparison_rest to Greater n = plain_line (with_immediate Xori to to 1) ∷ []
+comparison_rest to LessOrEqual n = []
+comparison_rest to GreaterOrEqual n = plain_line (with_immediate Xori to to 1) ∷ []
+comparison_rest to Equal n = if n == 0 then [] else plain_line (with_immediate Sltiu to 5 1) ∷ []
+comparison_rest to NotEqual n = if n == 0 then [] else plain_line (on_registers Sltu to 0 5) ∷ []
 
 -- so with a constant in a register, which is its right operand
 abbrev pub comparison_line : ℕ → Comparison → Kind → ℕ → ℕ → Constant → Option Instruction
-comparison_line to op kind left right c = if right == c.register && not (left == c.register) then weighing_line to op kind left c.word else None
+comparison_line to op kind left right c = if right == c.register && not (left == c.register) then comparison_start to op kind left c.word else None
 
--- a register isn't read behind a line that sets `to`. lives: what lives there
+-- whether a register isn't read behind a line that sets `to`; lives: what lives there
 abbrev pub is_spent : (ℕ → Bool) → ℕ → ℕ → Bool
 is_spent lives to r = r == to || not (lives r)
 
@@ -327,9 +328,9 @@ abbrev pub operated_code : Option Constant → ℕ → BinaryOp → Kind → ℕ
 operated_code None to op kind left right = computed_code to op kind left right
 operated_code (Some c) to op kind left right = by_or (computed_code to op kind left right) (constant_line to op kind left right c) []
 
-abbrev pub decided_code : Option Constant → ℕ → Comparison → Kind → ℕ → ℕ → List CodeLine
-decided_code None to op kind left right = compared_code to (less_op kind) left right op
-decided_code (Some c) to op kind left right = by_or (compared_code to (less_op kind) left right op) (comparison_line to op kind left right c) (weighed_code to op c.word)
+abbrev pub compared_with_code : Option Constant → ℕ → Comparison → Kind → ℕ → ℕ → List CodeLine
+compared_with_code None to op kind left right = compared_code to (less_op kind) left right op
+compared_with_code (Some c) to op kind left right = by_or (compared_code to (less_op kind) left right op) (comparison_line to op kind left right c) (comparison_rest to op c.word)
 
 -- the register that is stored, or x0 for a zero that the line before it passed
 abbrev pub stored_from : Option Constant → ℕ → ℕ
@@ -341,7 +342,7 @@ abbrev pub way_code : (Name → ℕ) → ℕ → Option Constant → Option Cons
 way_code at m passed before (Put to number) = put_code passed (constant_code to (word number))
 way_code at m passed before (PutNull to) = put_code passed (moved_code to 0)
 way_code at m passed before (Compute to op kind left right) = operated_code before to op kind left right
-way_code at m passed before (Compare to op kind left right) = decided_code before to op kind left right
+way_code at m passed before (Compare to op kind left right) = compared_with_code before to op kind left right
 way_code at m passed before (Write place kind from access) = line_code at m (Write place kind (stored_from before from) access)
 way_code at m passed before line = line_code at m line
 

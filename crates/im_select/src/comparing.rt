@@ -1,7 +1,9 @@
 ghost use Rattle.std.specs.Prelude.{◌≡◌, ◌<◌, ◌++◌, option_map, OnOk};
 ghost use Rattle.im_rv.specs.Lines.{code_lines, line_of};
 ghost use Rattle.im_select_relation.specs.OperatorTables.{least};
-ghost use Rattle.im_select.specs.Emitted.{above, below_line, equal_line, unequal_line, weighing_line, weighed_code, comparison_line, decided_code};
+ghost use Rattle.im_select.specs.Emitted.{above, below_line, equal_line, unequal_line};
+ghost use Rattle.im_select.specs.Emitted.{comparison_line, comparison_rest, comparison_start};
+ghost use Rattle.im_select.specs.Emitted.{compared_with_code};
 
 use crate::computing::{by_sign, is_signed, push_compared};
 use crate::folding::{Constant, by_low, negated};
@@ -65,10 +67,10 @@ fn unequal(to: u32, left: u32, word: u32) -> Option<Instr>
 
 /// The first instruction of a comparison with a word on its right, if there is one with an
 /// immediate (RISC-V Unprivileged ISA, 2.4).
-fn weighing(to: u32, op: Comparison, kind: Kind, left: u32, word: u32) -> Option<Instr>
+fn comparison_start(to: u32, op: Comparison, kind: Kind, left: u32, word: u32) -> Option<Instr>
     requires to { to < 32 }
     requires left { left < 32 }
-    ensures { option_map line_of result ≡ weighing_line to op kind left word }
+    ensures { option_map line_of result ≡ comparison_start to op kind left word }
 {
     match op {
         Comparison::Less | Comparison::GreaterOrEqual => {
@@ -94,16 +96,21 @@ pub(crate) fn constant_comparison(
     ensures { option_map line_of result ≡ comparison_line to op kind left right constant }
 {
     if right == constant.register && left != constant.register {
-        return weighing(to, op, kind, left, constant.word);
+        return comparison_start(to, op, kind, left, constant.word);
     }
     None
 }
 
 /// What is behind the first instruction of a comparison with a word.
-fn push_weighed(lines: &mut Vec<Line>, to: u32, op: Comparison, word: u32) -> Result<(), NoMemory>
+fn push_comparison_rest(
+    lines: &mut Vec<Line>,
+    to: u32,
+    op: Comparison,
+    word: u32,
+) -> Result<(), NoMemory>
     requires { to < 32 }
     ensures { OnOk result (code_lines lines.new.items
-        ≡ code_lines lines.old.items ++ weighed_code to op word) }
+        ≡ code_lines lines.old.items ++ comparison_rest to op word) }
 {
     match op {
         Comparison::Less | Comparison::LessOrEqual => Ok(()),
@@ -127,7 +134,7 @@ fn push_weighed(lines: &mut Vec<Line>, to: u32, op: Comparison, word: u32) -> Re
 
 /// 1 where two values compare so, else 0, by an immediate where the right one is a constant that
 /// the line before it passed; x5 is used.
-pub(crate) fn push_decided(
+pub(crate) fn push_compared_with(
     lines: &mut Vec<Line>,
     before: Option<Constant>,
     to: u32,
@@ -140,12 +147,12 @@ pub(crate) fn push_decided(
     requires left { left < 32 }
     requires right { right < 32 }
     ensures { OnOk result (code_lines lines.new.items
-        ≡ code_lines lines.old.items ++ decided_code before to op kind left right) }
+        ≡ code_lines lines.old.items ++ compared_with_code before to op kind left right) }
 {
     if let Some(constant) = before {
         if let Some(instr) = constant_comparison(to, op, kind, left, right, constant) {
             push(lines, instr)?;
-            return push_weighed(lines, to, op, constant.word);
+            return push_comparison_rest(lines, to, op, constant.word);
         }
     }
     push_compared(lines, to, op, kind, left, right)

@@ -13,7 +13,7 @@ ghost use Rattle.im_select_relation.specs.OperatorTables.{commutes};
 ghost use Rattle.im_select.specs.Emitted.{by_low, by_bits, negated, immediate_line, constant_line, is_spent, is_taken, passed_to, passed_by, constant_code, moved_code, put_code, operated_code, stored_from, way_code, behind_at};
 
 use crate::branching::lives;
-use crate::comparing::{constant_comparison, push_decided};
+use crate::comparing::{constant_comparison, push_compared_with};
 use crate::computing::{by_sign, push_computed};
 use crate::lines::push_line;
 use crate::memory::push_write;
@@ -336,7 +336,7 @@ pub(crate) fn push_way(
             kind,
             left,
             right,
-        } => { push_decided(lines, before, to, op, kind, left, right) }
+        } => { push_compared_with(lines, before, to, op, kind, left, right) }
         Placed::Write {
             place,
             kind,

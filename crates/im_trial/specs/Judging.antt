@@ -12,8 +12,8 @@ use Rattle.im_trial.specs.Texts.{has_text}
 abbrev pub passes : Row → Case → Bool
 passes row case = bytes_eq (found_of case) (wanted_of row)
 
-abbrev pub no_case : Tally
-no_case = record { passed = 0; failed = 0 }
+abbrev pub none_counted : Tally
+none_counted = record { passed = 0; failed = 0 }
 
 abbrev pub one_more : ℕ → ℕ
 one_more count = min (count + 1) (2 ^ 32 - 1)

@@ -1,5 +1,6 @@
 ghost use Rattle.std.specs.Prelude.{◌≡◌, true, false, length, IfOk, OnOk};
-ghost use Rattle.im_trial.specs.Judging.{AreCounted, AreTablesCounted, IsCounted, IsTableCounted, cases_in, no_case};
+ghost use Rattle.im_trial.specs.Judging.{AreCounted, AreTablesCounted, IsCounted};
+ghost use Rattle.im_trial.specs.Judging.{IsTableCounted, cases_in, none_counted};
 ghost use Rattle.im_trial.specs.Texts.{has_text};
 
 use crate::case::Case;
@@ -70,7 +71,7 @@ fn run_table<K: Kinds>(
 
 // Runs the rows of each table, in turn, and gives the counts.
 fn run_each<K: Kinds>(rt: &HostRuntime, kinds: &K, names: &[&str]) -> Result<Tally, Stop>
-    ensures { IfOk result (AreTablesCounted (length names.now) no_case) }
+    ensures { IfOk result (AreTablesCounted (length names.now) none_counted) }
 {
     let mut texts = Texts::new(rt.alloc());
     let mut tally = Tally::new();

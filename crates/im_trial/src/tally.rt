@@ -1,5 +1,5 @@
 ghost use Rattle.std.specs.Prelude.{◌≡◌, IfOk, string_bytes};
-ghost use Rattle.im_trial.specs.Judging.{counted, counts_of, no_case, passes, told_of};
+ghost use Rattle.im_trial.specs.Judging.{counted, counts_of, none_counted, passes, told_of};
 
 use crate::case::Case;
 use crate::row::Row;
@@ -37,7 +37,7 @@ fn counts_text(alloc: Global, tally: Tally) -> Result<String, AllocError>
 impl Tally {
     /// Of no case.
     pub fn new() -> Tally
-        ensures { result ≡ no_case }
+        ensures { result ≡ none_counted }
     {
         Tally {
             passed: 0,
