@@ -10,7 +10,7 @@ use Rattle.im_store.specs.im_ctype.declared.cell.Cell.{Cell}
 use Rattle.im_store.specs.declared.operators.BinaryOp.{BinaryOp}
 use Rattle.im_store.specs.declared.operators.BinaryOp.TheVariants.{ShiftLeft, ShiftRight}
 use Rattle.im_store.specs.Numbers.{apply}
-use Rattle.im_store.specs.Objects.{static, Value, Store, shape_of as object_shape}
+use Rattle.im_store.specs.Objects.{Null, static, Value, Store, shape_of as object_shape}
 use Rattle.im_store.specs.Statics.{StaticObject}
 use Rattle.im_store.specs.Pointers.{moved_by, bytes_moved, member_at, distance, compare_values, holds}
 use Rattle.im_store.proofs.OfKind.{IsOperand, apply-of_kind, apply_one-of_kind}
@@ -168,11 +168,11 @@ module _ (g : Prog) where
   either-value w kind true before after h k = h
   either-value w kind false before after h k = k
 
-  right-stored : (x : Access) (at : Value) (read : Bool) (s : State) {value : Run Values} {source : Run Value} → IsRight g.statics s.world (Fits (Some x)) (value s) → IsRight g.statics s.world (λ w v. Unit {0}) (source s)
+  right-stored : (x : Access) (at : Value) (read : Bool) (value : Run Values) (source : Run Value) (s : State) → IsRight g.statics s.world (Fits (Some x)) (value s) → IsRight g.statics s.world (λ w v. Unit {0}) (source s)
       → IsRight g.statics s.world (Fits (Some x)) (stored x at read value source s)
-  right-stored (Scalar kind) at read s v h = v
-  right-stored (Struct count cells) at false s v h = v
-  right-stored (Struct count cells) at true s v h =
+  right-stored (Scalar kind) at read value source s v h = v
+  right-stored (Struct count cells) at false value source s v h = v
+  right-stored (Struct count cells) at true value source s v h =
       right-bind g.statics h (λ from t sane kept _.
       right-bind g.statics (right-checked g.statics (λ w v. Unit {0}) t (source_for cells at from) sane (λ v e. tt)) (λ there u sane₁ kept₁ _.
       right-read g.statics (Struct count cells) there u sane₁))
@@ -304,7 +304,7 @@ module _ (g : Prog) where
           right-bind g.statics (right-value a s t sane here) (λ _ u sane₁ kept h. right-give g.statics u _ sane₁ refl)
       right-value (Assign x a e) s t sane here =
           right-bind g.statics (right-place a s t.1 sane here) (λ at u sane₁ kept h.
-          right-bind g.statics (right-stored g x at (is_read e) u
+          right-bind g.statics (right-stored g x at (is_read e) (value_of c e) (source_of c e) u
           (at-shape t.3 (right-value e u t.2 sane₁ (here-kept kept here))) (right-source e u t.2 sane₁ (here-kept kept here))) (λ vs v sane₂ kept₂ hv.
           right-bind g.statics (right-used_values g.statics x v vs sane₂ hv) (λ _ w sane₃ kept₃ hw. right-write g.statics x at vs w sane₃ hw)))
       right-value (Update a change e) s t sane here =
