@@ -10,7 +10,7 @@ use Rattle.im_store.specs.im_ctype.declared.cell.Cell.{Cell}
 use Rattle.im_store.specs.declared.operators.BinaryOp.{BinaryOp}
 use Rattle.im_store.specs.declared.operators.BinaryOp.TheVariants.{ShiftLeft, ShiftRight}
 use Rattle.im_store.specs.Numbers.{apply}
-use Rattle.im_store.specs.Objects.{Null, static, Value, Store, shape_of as object_shape}
+use Rattle.im_store.specs.Objects.{static, Value, Null, Store, shape_of as object_shape}
 use Rattle.im_store.specs.Statics.{StaticObject}
 use Rattle.im_store.specs.Pointers.{moved_by, bytes_moved, member_at, distance, compare_values, holds}
 use Rattle.im_store.proofs.OfKind.{IsOperand, apply-of_kind, apply_one-of_kind}
@@ -304,7 +304,7 @@ module _ (g : Prog) where
           right-bind g.statics (right-value a s t sane here) (λ _ u sane₁ kept h. right-give g.statics u _ sane₁ refl)
       right-value (Assign x a e) s t sane here =
           right-bind g.statics (right-place a s t.1 sane here) (λ at u sane₁ kept h.
-          right-bind g.statics (right-stored g x at (is_read e) (value_of c e) (source_of c e) u
+          right-bind g.statics (right-stored x at (is_read e) (value_of c e) (source_of c e) u
           (at-shape t.3 (right-value e u t.2 sane₁ (here-kept kept here))) (right-source e u t.2 sane₁ (here-kept kept here))) (λ vs v sane₂ kept₂ hv.
           right-bind g.statics (right-used_values g.statics x v vs sane₂ hv) (λ _ w sane₃ kept₃ hw. right-write g.statics x at vs w sane₃ hw)))
       right-value (Update a change e) s t sane here =
