@@ -191,8 +191,8 @@ def chains(room):
 
 @test("docs/pitfalls.md: each program has the cause that it stands under")
 def pitfalls(room):
-    sections = re.findall(r"^## U(\d):.*?^```c\n(.*?)^```", text_of("docs/pitfalls.md"), re.M | re.S)
-    same("the causes", [number for number, _ in sections], [str(it) for it in range(1, 10)])
+    sections = re.findall(r"^## U(\d+):.*?^```c\n(.*?)^```", text_of("docs/pitfalls.md"), re.M | re.S)
+    same("the causes", [number for number, _ in sections], [str(it) for it in range(1, 11)])
     for number, source in sections:
         room.file("u.c", source)
         room.call("eval", "u.c").wants(f"U{number}", 11, b"", f"intermit: undefined U{number}")
