@@ -294,15 +294,18 @@ module _ (u : Code) (g : Setting) (p : Prog) (home : Home) where
   -- a struct's value is its address
   pub struct-line : (v : Value) (place : Place) (count : ℕ) (cells : List Cell) (to free : ℕ) (n : Mark) (next : Point) (base registers : ℕ → Value) (store : Store) (s : typed.State) → m.place_of place home.active registers store ≡ Fine v → Agrees s.world.store store
       → ((x : ℕ) → x < free → (x ≡ to → ⊥) → registers x ≡ base x)
-      → Does u g p home next (at home n (before (Address to place) next) registers store s) (CameAs (Some (Struct count cells)) base to free) (read_at (Struct count cells) v s)
+      → Does u g p home next (at home n (before (Address to place) next) registers store s) (λ vs t after left. CameAs (Some (Struct count cells)) base to free vs t after left × (after to ≡ v)) (read_at (Struct count cells) v s)
   struct-line (Pointer o offset) place count cells to free n next base registers store s is agrees kept =
       does-later u g p home (line-goes u g p home (Address to place) next n registers store s to (m.place_of place home.active registers store) (Pointer o offset) refl is)
       (checks u g p home next n (with_register registers to (Pointer o offset)) store s (read_cells s.world.store o offset cells)
-      (λ vs e. record {
-        agrees = agrees;
-        kept = λ q l ne. register-other registers to q (Pointer o offset) ne ∙ kept q l ne;
-        has = (o, offset, register-same registers to (Pointer o offset), e);
-      }))
+      (λ vs e. (
+        record {
+          agrees = agrees;
+          kept = λ q l ne. register-other registers to q (Pointer o offset) ne ∙ kept q l ne;
+          has = (o, offset, register-same registers to (Pointer o offset), e);
+        },
+        register-same registers to (Pointer o offset),
+      )))
   struct-line (Number z) place count cells to free n next base registers store s is agrees kept = record { by = tt }
   struct-line Null place count cells to free n next base registers store s is agrees kept = record { by = tt }
   struct-line Unset place count cells to free n next base registers store s is agrees kept = record { by = tt }
