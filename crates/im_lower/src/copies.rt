@@ -1,7 +1,11 @@
 ghost use Rattle.std.specs.Prelude.{◌≡◌, ◌≤◌, ◌+◌, ◌*◌, IfOk, OnOk, length, slice_get};
 ghost use Rattle.im_num.specs.Kinds.{kind_size};
-ghost use Rattle.im_typed.specs.ProgramOf.{place_of, program_of};
-ghost use Rattle.im_lower_relation.specs.Codes.{all_objects, extent, fills, is_whole, object_size, static_size};
+ghost use Rattle.im_ctype.specs.Table.{Table};
+ghost use Rattle.im_typed.specs.Meaning.{is_read};
+ghost use Rattle.im_typed.specs.ProgramOf.{expr_of, place_of, program_of};
+ghost use Rattle.im_typed.specs.Values.{extent};
+ghost use Rattle.im_lower_relation.specs.Codes.{all_objects, fills, in_groups, is_whole};
+ghost use Rattle.im_lower_relation.specs.Codes.{object_size, static_size};
 ghost use Rattle.im_lower_plain.specs.Make.{groups_in, put_copy, put_group, put_groups};
 
 use crate::builder::{Builder, next, sum};
@@ -9,24 +13,37 @@ use crate::lines::{put_reads, put_writes};
 use im_block::Line;
 use im_ctype::{Cell, bytes_of_kind};
 use im_num::NoMemory;
-use im_typed::{Place, Prog};
+use im_typed::{Expr, Place, Prog};
 
 /// How many groups of 8 cells a struct is copied in, besides one of those that are left: none but
-/// this one where the place isn't a whole object, as a struct that is read may overlap it then.
+/// this one where the value may overlap the place in part.
 pub(crate) fn groups_in(
     place: &Place,
+    value: &Expr,
     cells: &[Cell],
     prog: &Prog,
     first: u32,
 ) -> Result<usize, NoMemory>
-    ensures gives { IfOk result (λ n. n ≡ groups_in (is_whole (program_of prog.now) first
-        (place_of prog.now.types place.now) cells.now) cells.now) }
+    ensures gives { IfOk result (λ n. n ≡ groups_in (in_groups (program_of prog.now) first
+        (place_of prog.now.types place.now) cells.now (expr_of prog.now.types value.now))
+        cells.now) }
     ensures few { IfOk result (λ n. 8 * n ≤ length cells.now) }
 {
-    if is_whole(place, cells, prog, first)? {
+    if is_read(value) || is_whole(place, cells, prog, first)? {
         Ok(cells.len() / 8)
     } else {
         Ok(0)
+    }
+}
+
+/// Whether a value is directly read from a place: an assignment reads it from its target, or from
+/// one that shares no byte with it (C11 6.5.16.1p3).
+fn is_read(value: &Expr) -> bool
+    ensures { (types : Table) → result ≡ is_read (expr_of types value.now) }
+{
+    match value {
+        Expr::Read(_, _) => true,
+        _ => false,
     }
 }
 
