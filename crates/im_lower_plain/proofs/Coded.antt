@@ -61,13 +61,13 @@ group_coded pointer place cells m =
     let r = reads_point pointer (pointer + 1) cells (put_writes place (pointer + 1) cells m) in
     (r.numbers, w.numbers, r.count, w.count, r.point ∙ ap (λ q. reads_of pointer (pointer + 1) cells r.numbers q) w.point)
 
-groups_coded : (pointer : ℕ) (place : Place) (n : ℕ) (cells : List Cell) (m : Made) → CodesGroups pointer place n cells (put_groups pointer place n cells m).point m.point
+pub groups_coded : (pointer : ℕ) (place : Place) (n : ℕ) (cells : List Cell) (m : Made) → CodesGroups pointer place n cells (put_groups pointer place n cells m).point m.point
 groups_coded pointer place zero cells m = group_coded pointer place cells m
 groups_coded pointer place (suc n) cells m =
     let rest = put_groups pointer place n (drop 8 cells) m in
     (rest.point, group_coded pointer place (take 8 cells) rest, groups_coded pointer place n (drop 8 cells) m)
 
-groups_allowed : (whole : Bool) (cells : List Cell) → (groups_in whole cells ≡ 0) ⊎ (whole ≡ true)
+pub groups_allowed : (whole : Bool) (cells : List Cell) → (groups_in whole cells ≡ 0) ⊎ (whole ≡ true)
 groups_allowed false cells = inl refl
 groups_allowed true cells = inr refl
 

@@ -16,7 +16,7 @@ use Rattle.im_typed.specs.Program.{Prog, Func, LocalObject, Struct}
 use Rattle.im_typed.specs.Programs.{first_object}
 use Rattle.im_typed.specs.Runs as typed
 use Rattle.im_typed.specs.Values.{Values, extent, source_for, write_at}
-use Rattle.im_typed.specs.Typing.{Each, AreLaidOut, kinds_of}
+use Rattle.im_typed.specs.Typing.{Each, AreLaidOut, StandAmong, kinds_of}
 use Rattle.im_typed.specs.Sound.{AreValues}
 use Rattle.im_typed.proofs.Sounds.{then-fine, unless-fine}
 use Rattle.im_typed.proofs.SoundCalls.{by-test, if-true, if-false}
@@ -268,6 +268,23 @@ whole-clear store whole size ds cells vs q j o i lives laid fill e some at_start
     let object : o ≡ whole = cc in
     let start : i ≡ 0 = cc in
     inl (whole-start store q j size ds cells vs (ap store.shape (same_object-is q o b ∙ object) ∙ lives) laid (eqb-true size (extent cells) fill) e some ∙ sym start)
+
+-- a struct that stands in an object that it fills begins with it
+
+ends-among : (offset size : ℕ) (ds cells : List Cell) → AreLaidOut 0 size ds → offset ≤ size → StandAmong ds offset cells → offset + extent cells ≤ size
+ends-among offset size ds [] laid le among = omega arith
+ends-among offset size ds (c ∷ cs) laid le among =
+    let one = kind-inside 0 size ds (offset + c.offset) c.kind laid among.0 in
+    let rest = ends-among offset size ds cs laid le among.1 in
+    omega arith
+
+pub filled-clear : (store : Store) (whole : Object) (size offset : ℕ) (ds cells : List Cell) (vs : Values) (q : Object) (j : ℕ) (o : Object) (i : ℕ) → store.shape whole ≡ Some (shape_of size ds) → AreLaidOut 0 size ds → offset ≤ size → StandAmong ds offset cells
+    → fills (Some size) cells ≡ true → read_cells store q j cells ≡ Fine vs → 0 < length cells → Pointer whole offset ≡ Pointer o i → Clear (extent cells) o i q j
+filled-clear store whole size offset ds cells vs q j o i lives laid le among fill e some target =
+    let end = ends-among offset size ds cells laid le among in
+    let all = eqb-true size (extent cells) fill in
+    let start : offset ≡ 0 = omega arith in
+    whole-clear store whole size ds cells vs q j o i lives laid fill e some (sym target ∙ ap (Pointer whole) start)
 
 pub in-right : {A B C : Type 0} → (A ⊎ B) → (B → C) → A ⊎ C
 in-right (inl a) h = inl a

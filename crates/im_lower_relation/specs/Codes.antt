@@ -99,10 +99,14 @@ abbrev pub fills : Option ℕ → List Cell → Bool
 fills None cells = false
 fills (Some size) cells = size == extent cells
 
+-- an object of a function, by its number in the unit
+abbrev pub fills_object : p.Prog → ℕ → List Cell → Bool
+fills_object g object cells = fills (object_size (slice_get (all_objects g.funcs) (object - length g.statics))) cells
+
 -- the struct is a whole object: one that overlaps it is the same
 abbrev pub is_whole : p.Prog → ℕ → p.Place → List Cell → Bool
 is_whole g first (p.Static n) cells = fills (static_size (slice_get g.statics n)) cells
-is_whole g first (p.Local n) cells = fills (object_size (slice_get (all_objects g.funcs) (first + n - length g.statics))) cells
+is_whole g first (p.Local n) cells = fills_object g (first + n) cells
 is_whole g first (p.Target e) cells = false
 is_whole g first (p.Member a d) cells = false
 
