@@ -11,7 +11,3 @@ stepped_more size (y ∷ xs) x s = ap (λ o. v.moved_spot size o (Some (bytes_of
 
 pub one_more : (size : ℕ → ℕ) (xs now : List Step) (x : Step) (s : Option v.Spot) → now ≡ xs ++ x ∷ [] → stepped size now s ≡ stepped size xs (v.moved_spot size s (Some (bytes_of x)))
 one_more size xs now x s is = ap (λ ys. stepped size ys s) is ∙ stepped_more size xs x s
-
-pub moved_nowhere : (size : ℕ → ℕ) (s : Option v.Spot) → v.moved_spot size s None ≡ None
-moved_nowhere size None = refl
-moved_nowhere size (Some s) = refl

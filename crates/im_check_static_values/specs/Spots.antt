@@ -1,5 +1,5 @@
 -- For private contracts: the places that Rust values stand for, and the steps to them.
-use Rattle.std.specs.Prelude.{⊤, ℕ, ◌<◌, ℤ, pos, neg_ℤ, ◌*ℤ◌, List, [], ◌∷◌, Option, Some, None, if◌then◌else◌}
+use Rattle.std.specs.Prelude.{ℕ, ◌+◌, ℤ, pos, neg_ℤ, ◌*ℤ◌, List, [], ◌∷◌, Option, Some, None, if◌then◌else◌}
 use Rattle.im_ctype.specs.Table.{Table}
 use Rattle.im_typed.specs.declared.expression.Expr.{size-Expr}
 use Rattle.im_typed.specs.ProgramOf.{expr_of}
@@ -34,8 +34,8 @@ root_spot types size (Static n) = beginning (Some n)
 root_spot types size Nowhere = None
 root_spot types size (Pointer e) = v.address_of size (expr_of types e)
 
--- a pointer at a root is of a lesser depth
-abbrev pub IsLess : ℕ → Root → Type 0
-IsLess n (Static object) = ⊤
-IsLess n Nowhere = ⊤
-IsLess n (Pointer e) = size-Expr e < n
+-- the depth of an expression in which such a pointer is the operand
+abbrev pub depth_over : Root → ℕ
+depth_over (Static object) = 0
+depth_over Nowhere = 0
+depth_over (Pointer e) = size-Expr e + 1

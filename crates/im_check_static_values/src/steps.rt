@@ -1,6 +1,6 @@
 //! The steps from a static to a place in it: members and moves, of which chains may have any
 //! number (C11 6.6p9).
-ghost use Rattle.std.specs.Prelude.{◌≡◌, ◌<◌, ℕ, Option, None, if◌then◌else◌, IfOk};
+ghost use Rattle.std.specs.Prelude.{◌≡◌, ◌+◌, ◌≤◌, ◌<◌, ℕ, pos, Option, Some, None, if◌then◌else◌, IfOk, MatchResult};
 ghost use Rattle.im_ctype.specs.Table.{Table};
 ghost use Rattle.im_typed.specs.ProgramOf as q;
 ghost use Rattle.im_typed.specs.declared.expression.Expr.{size-Expr};
@@ -43,26 +43,42 @@ fn taken_place(place: &mut Place) -> Place
     mem::replace(place, Place::Local(0))
 }
 
+/// The place of which one is a member, and the member's offset in bytes; of a place that is no
+/// member where the steps to it begin.
+fn whole_of(place: Place) -> Result<(Place, u32), Root>
+    ensures { MatchResult result
+        (λ r. ((types : Table) (size : ℕ → ℕ) → v.spot_of size (q.place_of types place)
+        ≡ v.moved_spot size (v.spot_of size (q.place_of types r.0)) (Some (pos r.1)))
+        × (size-Place r.0 < size-Place place))
+        (λ root. ((types : Table) (size : ℕ → ℕ) → s.root_spot types size root
+        ≡ v.spot_of size (q.place_of types place)) × (s.depth_over root ≤ size-Place place)) }
+{
+    let mut place = place;
+    match &mut place {
+        Place::Static(object) => Err(Root::Static(*object)),
+        Place::Local(_) => Err(Root::Nowhere),
+        Place::Target(pointer) => Err(Root::Pointer(taken(pointer))),
+        Place::Member(whole, offset) => Ok((taken_place(whole), *offset)),
+    }
+}
+
 /// What a place is a part of; the steps from there to it stand behind the others, the last one
 /// first.
 fn root_of(place: Place, steps: &mut Vec<Step>) -> Result<Root, NoMemory>
     ensures spot { (types : Table) (size : ℕ → ℕ) → IfOk result (λ root.
         s.stepped size steps.new.items (s.root_spot types size root)
         ≡ s.stepped size steps.old.items (v.spot_of size (q.place_of types place))) }
-    ensures below { IfOk result (s.IsLess (size-Place place)) }
+    ensures below { IfOk result (λ root. s.depth_over root ≤ size-Place place) }
 {
     let mut rest = place;
     loop {
-        let whole = match &mut rest {
-            Place::Static(object) => return Ok(Root::Static(*object)),
-            Place::Local(_) => return Ok(Root::Nowhere),
-            Place::Target(pointer) => return Ok(Root::Pointer(taken(pointer))),
-            Place::Member(whole, offset) => {
-                steps.push(Step::Member(*offset))?;
-                taken_place(whole)
+        match whole_of(rest) {
+            Ok((whole, offset)) => {
+                steps.push(Step::Member(offset))?;
+                rest = whole;
             }
-        };
-        rest = whole;
+            Err(root) => return Ok(root),
+        }
     }
 }
 
@@ -92,7 +108,7 @@ fn add_move(
 fn pointed_at(is_constant: bool, pointer: Expr) -> Root
     ensures spot { (types : Table) (size : ℕ → ℕ) → s.root_spot types size result
         ≡ (if is_constant then v.address_of size (q.expr_of types pointer) else None) }
-    ensures below { (n : ℕ) → size-Expr pointer < n → s.IsLess n result }
+    ensures below { s.depth_over result ≤ size-Expr pointer + 1 }
 {
     if is_constant {
         Root::Pointer(pointer)
@@ -106,7 +122,7 @@ fn pointer_root(alloc: Global, e: Expr, steps: &mut Vec<Step>) -> Result<Root, N
     ensures spot { (types : Table) (size : ℕ → ℕ) → IfOk result (λ root.
         s.stepped size steps.new.items (s.root_spot types size root)
         ≡ s.stepped size steps.old.items (v.address_of size (q.expr_of types e))) }
-    ensures below { IfOk result (s.IsLess (size-Expr e)) }
+    ensures below { IfOk result (λ root. s.depth_over root ≤ size-Expr e) }
 {
     let mut e = e;
     match &mut e {

@@ -6,7 +6,7 @@ use Rattle.im_check_items.specs.im_rules.StaticValues.{spot_of}
 use Rattle.im_check_static_values.specs.Spots.{stepped}
 use Rattle.im_check_static_values.proofs.steps.root_of.Given as goal
 
-abbrev pub invariant-loop-rest : goal.invariant-loop-rest
-invariant-loop-rest l =
+abbrev pub invariant-loop-whole : goal.invariant-loop-whole
+invariant-loop-whole l =
     ((types : Table) (size : ℕ → ℕ) → stepped size l.steps.items (spot_of size (place_of types l.rest)) ≡ stepped size l.initial.steps.items (spot_of size (place_of types l.fn.place)))
     × (size-Place l.rest ≤ size-Place l.fn.place)
