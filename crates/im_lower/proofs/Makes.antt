@@ -1,5 +1,6 @@
 -- What an expression puts, from what its parts put in turn: a step for each call of the code.
-use Rattle.std.proofs.Common.{◌≡◌, ◌⊎◌, inl, inr, ℕ, ◌+◌, Bool, List, length, refl, ap, sym, ◌∙◌, Box, Global}
+use denote.Bor.{Bor}
+use Rattle.std.proofs.Common.{◌≡◌, ◌≤◌, ◌<◌, ◌⊎◌, inl, inr, ℕ, ◌+◌, Bool, List, Option, Some, None, Result, Ok, Err, IfOk, IfSome, MatchOption, length, arith, refl, ap, sym, ◌∙◌, Box, Global}
 use Rattle.im_num.specs.declared.kind.Kind.{Kind}
 use Rattle.im_ctype.specs.declared.cell.Cell.{Cell}
 use Rattle.im_ctype.specs.Layout.{layouts, layout_at}
@@ -10,15 +11,23 @@ use Rattle.im_typed.specs.declared.expression.Change.{Change}
 use Rattle.im_typed.specs.declared.expression.Access.{Access}
 use Rattle.im_typed.specs.declared.expression.Access.TheVariants as ra
 use Rattle.im_typed.specs.declared.expression.Expr as re
+use Rattle.im_typed.specs.declared.expression.Expr.{size-Expr}
 use Rattle.im_typed.specs.declared.expression.Place as rp
 use Rattle.im_typed.specs.Program as p
 use Rattle.im_typed.specs.ProgramOf.{access_of, expr_of, place_of}
 use Rattle.im_typed.specs.Values.{changed_kind}
 use Rattle.im_block.specs.declared.code.Exit.TheVariants.{Jump, Branch}
+use Rattle.im_block.specs.declared.code.Line.TheVariants.{Address}
 use Rattle.im_block.specs.declared.code.Place.{Place}
-use Rattle.im_lower_relation.specs.Codes.{is_whole}
-use Rattle.im_lower_plain.specs.Made.{Made, close, put_read, start}
-use Rattle.im_lower_plain.specs.Make.{behind, groups_in, make, make_place, make_test, place_at, put_change, put_copy, put_increment, put_operator}
+use Rattle.im_lower_relation.specs.Codes.{in_groups}
+use Rattle.im_lower_plain.specs.Made.{Made, close, put, put_read, start}
+use Rattle.im_lower_plain.specs.Make.{behind, groups_in, make, make_place, make_test, place_at, put_change, put_copy, put_increment, put_load, put_operator}
+
+-- what is less deep than a part is less deep than the whole
+pub below_more : {E : Type 0} (found : Result (Option (Bor re.Expr)) E) (n k : ℕ) → n ≤ k → IfOk found (λ o. IfSome o (λ e. size-Expr e.now < n)) → IfOk found (λ o. IfSome o (λ e. size-Expr e.now < k))
+below_more (Ok None) n k le h = h
+below_more (Ok (Some e)) n k le h = omega (arith, le, h)
+below_more (Err x) n k le h = h
 
 module _ (g : p.Prog) (first : ℕ) where
   pub choice_made : (q a b : p.Expr) (to free join fails holds : ℕ) (m m₁ m₂ m₃ m₄ m₅ m₆ : Made)
@@ -104,14 +113,14 @@ module _ (g : p.Prog) (first : ℕ) where
       ∙ ap (put_read to (place_at first a free) (changed_kind change)) value)
 
   pub copy_made : (a : p.Place) (e : p.Expr) (count many : ℕ) (cells found counted : List Cell) (to free from beside : ℕ) (at : Place) (m m₁ m₂ : Made)
-      → from ≡ behind a free → found ≡ cells → counted ≡ cells → many ≡ groups_in (is_whole g first a counted) counted → at ≡ place_at first a free → m₁ ≡ put_copy to from at many found m
+      → from ≡ behind a free → found ≡ cells → counted ≡ cells → many ≡ groups_in (in_groups g first a counted e) counted → at ≡ place_at first a free → m₁ ≡ put_copy to from at many found m
       → beside ≡ from + 1 → m₂ ≡ make g first e from beside m₁
       → make_place g first a free m₂ ≡ make g first (p.Assign (p.Struct count cells) a e) to free m
   copy_made a e count many cells found counted to free from beside at m m₁ m₂ is_from is_found is_counted is_many is_at is₁ is_beside is₂ =
-      let put : m₁ ≡ put_copy to (behind a free) (place_at first a free) (groups_in (is_whole g first a cells) cells) cells m =
+      let put : m₁ ≡ put_copy to (behind a free) (place_at first a free) (groups_in (in_groups g first a cells e) cells) cells m =
       is₁ ∙ ap (λ n. put_copy to n at many found m) is_from ∙ ap (λ x. put_copy to (behind a free) x many found m) is_at
-      ∙ ap (λ n. put_copy to (behind a free) (place_at first a free) n found m) (is_many ∙ ap (λ cs. groups_in (is_whole g first a cs) cs) is_counted)
-      ∙ ap (λ cs. put_copy to (behind a free) (place_at first a free) (groups_in (is_whole g first a cells) cells) cs m) is_found in
+      ∙ ap (λ n. put_copy to (behind a free) (place_at first a free) n found m) (is_many ∙ ap (λ cs. groups_in (in_groups g first a cs e) cs) is_counted)
+      ∙ ap (λ cs. put_copy to (behind a free) (place_at first a free) (groups_in (in_groups g first a cells e) cells) cs m) is_found in
       let next : beside ≡ behind a free + 1 = is_beside ∙ ap (λ n. n + 1) is_from in
       ap (make_place g first a free)
       (is₂ ∙ ap (λ n. make g first e n beside m₁) is_from ∙ ap (λ n. make g first e (behind a free) n m₁) next
@@ -152,6 +161,68 @@ module _ (g : p.Prog) (first : ℕ) where
   operator_made types x l r to free m (inr (inr (inr (inr h)))) =
       ap (λ y. make g first (expr_of types l.value) free (free + 1) (make g first (expr_of types r.value) (free + 1) (free + 1 + 1) (put_operator (expr_of types y) to free m))) h.2
       ∙ sym (ap (λ y. make g first (expr_of types y) to free m) h.2)
+
+  -- an object that has a name is reached by no pointer
+  pub no_pointer : (types : Table) (x : rp.Place) (free : ℕ) (m : Made)
+      → ((n : ℕ) × (x ≡ rp.Static n)) ⊎ ((n : ℕ) × (x ≡ rp.Local n))
+      → make_place g first (place_of types x) free m ≡ m
+  no_pointer types x free m (inl h) = ap (λ (y : rp.Place). make_place g first (place_of types y) free m) h.1
+  no_pointer types x free m (inr h) = ap (λ (y : rp.Place). make_place g first (place_of types y) free m) h.1
+
+  -- the code of what is reached by a pointer is that of the pointer
+  pub reached_by : (types : Table) (found : Option (Bor re.Expr)) (free : ℕ) (m n whole part : Made)
+      → whole ≡ part
+      → MatchOption found (part ≡ n) (λ pointer. part ≡ make g first (expr_of types pointer.now) free (free + 1) m)
+      → MatchOption found (whole ≡ n) (λ pointer. whole ≡ make g first (expr_of types pointer.now) free (free + 1) m)
+  reached_by types None free m n whole part is h = is ∙ h
+  reached_by types (Some e) free m n whole part is h = is ∙ h
+
+  -- what is left of a conversion's code once its line is put
+  pub converted_left : (types : Table) (x e : re.Expr) (kind : Kind) (operand : Box re.Expr Global) (to free : ℕ) (m m₁ : Made)
+      → x ≡ re.Convert kind operand → e ≡ operand.value → m₁ ≡ put_operator (expr_of types x) to free m
+      → make g first (expr_of types e) free (free + 1) m₁ ≡ make g first (expr_of types x) to free m
+  converted_left types x e kind operand to free m m₁ is is_e is₁ =
+      ap (λ (y : re.Expr). make g first (expr_of types y) free (free + 1) m₁) is_e
+      ∙ ap (make g first (expr_of types operand.value) free (free + 1)) (is₁ ∙ ap (λ (y : re.Expr). put_operator (expr_of types y) to free m) is)
+      ∙ sym (ap (λ (y : re.Expr). make g first (expr_of types y) to free m) is)
+
+  -- of a comma's once that behind it is put
+  pub comma_left : (types : Table) (x e d : re.Expr) (left right : Box re.Expr Global) (to free : ℕ) (m m₁ : Made)
+      → x ≡ re.Comma left right → e ≡ left.value → d ≡ right.value → m₁ ≡ make g first (expr_of types d) to free m
+      → make g first (expr_of types e) free (free + 1) m₁ ≡ make g first (expr_of types x) to free m
+  comma_left types x e d left right to free m m₁ is is_e is_d is₁ =
+      ap (λ (y : re.Expr). make g first (expr_of types y) free (free + 1) m₁) is_e
+      ∙ ap (make g first (expr_of types left.value) free (free + 1)) (is₁ ∙ ap (λ (y : re.Expr). make g first (expr_of types y) to free m) is_d)
+      ∙ sym (ap (λ (y : re.Expr). make g first (expr_of types y) to free m) is)
+
+  -- of a read's and an address's once their lines are put
+  pub read_left : (types : Table) (x : re.Expr) (access : Access) (place : Box rp.Place Global) (a b : rp.Place) (at : Place) (to free : ℕ) (m m₁ : Made)
+      → x ≡ re.Read access place → a ≡ place.value → b ≡ place.value → at ≡ place_at first (place_of types a) free
+      → m₁ ≡ put_load (access_of types access) to at m
+      → make_place g first (place_of types b) free m₁ ≡ make g first (expr_of types x) to free m
+  read_left types x access place a b at to free m m₁ is is_a is_b is_at is₁ =
+      let there : at ≡ place_at first (place_of types place.value) free = is_at ∙ ap (λ (y : rp.Place). place_at first (place_of types y) free) is_a in
+      ap (λ (y : rp.Place). make_place g first (place_of types y) free m₁) is_b
+      ∙ ap (make_place g first (place_of types place.value) free) (is₁ ∙ ap (λ y. put_load (access_of types access) to y m) there)
+      ∙ sym (ap (λ (y : re.Expr). make g first (expr_of types y) to free m) is)
+
+  pub address_left : (types : Table) (x : re.Expr) (place : Box rp.Place Global) (a b : rp.Place) (at : Place) (to free : ℕ) (m m₁ : Made)
+      → x ≡ re.Address place → a ≡ place.value → b ≡ place.value → at ≡ place_at first (place_of types a) free
+      → m₁ ≡ put (Address to at) m
+      → make_place g first (place_of types b) free m₁ ≡ make g first (expr_of types x) to free m
+  address_left types x place a b at to free m m₁ is is_a is_b is_at is₁ =
+      let there : at ≡ place_at first (place_of types place.value) free = is_at ∙ ap (λ (y : rp.Place). place_at first (place_of types y) free) is_a in
+      ap (λ (y : rp.Place). make_place g first (place_of types y) free m₁) is_b
+      ∙ ap (make_place g first (place_of types place.value) free) (is₁ ∙ ap (λ y. put (Address to y) m) there)
+      ∙ sym (ap (λ (y : re.Expr). make g first (expr_of types y) to free m) is)
+
+  -- where the code of a place is left, that of its pointer is
+  pub pointer_left : (types : Table) (found : Option (Bor re.Expr)) (free : ℕ) (m reached whole : Made)
+      → MatchOption found (reached ≡ m) (λ pointer. reached ≡ make g first (expr_of types pointer.now) free (free + 1) m)
+      → reached ≡ whole
+      → MatchOption found (m ≡ whole) (λ pointer. make g first (expr_of types pointer.now) free (free + 1) m ≡ whole)
+  pointer_left types None free m reached whole h is = sym h ∙ is
+  pointer_left types (Some e) free m reached whole h is = sym h ∙ is
 
   -- what is left of a moved pointer's code once its line and the other operand's code are put
   pub moved_left : (types : Table) (x : re.Expr) (l r : Box re.Expr Global) (to free above further : ℕ) (m m₁ m₂ : Made)

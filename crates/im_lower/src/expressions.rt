@@ -8,7 +8,7 @@ use crate::builder::{Builder, Targets, next};
 use crate::copies::{groups_in, put_copy};
 use crate::lines::{put_change, put_increment, put_load, register_at, small};
 use crate::operators::{put_operator, put_truths};
-use crate::places::{behind, changed_kind, place_at, pointer_of, shape_of, undiscarded};
+use crate::places::{behind, changed_kind, discarded, place_at, pointer_of, shape_of};
 use im_block::{Exit, Line};
 use im_ctype::cells_of_struct;
 use im_num::NoMemory;
@@ -99,10 +99,36 @@ fn lower_behind<'a>(
     ensures below { IfOk result (λ found. IfSome found
         (λ operand. size-Expr operand.now < size-Expr expression.now)) }
 {
-    let kept = undiscarded(expression);
-    match kept {
+    let mut kept = expression;
+    while let Some(operand) = discarded(kept) {
+        kept = operand;
+    }
+    lower_link(code, kept, to, free, prog, first)
+}
+
+/// Puts the same code of an expression that is no cast to `void`.
+#[cycle(expressions)]
+fn lower_link<'a>(
+    code: &mut Builder,
+    expression: &'a Expr,
+    to: u32,
+    free: u32,
+    prog: &Prog,
+    first: u32,
+) -> Result<Option<&'a Expr>, NoMemory>
+    ensures made { IfOk result (λ found. MatchOption found
+        (code.new ≡ make (program_of prog.now) first
+        (expr_of prog.now.types expression.now) to free code.old)
+        (λ operand. make (program_of prog.now) first
+        (expr_of prog.now.types operand.now) free (free + 1) code.new
+        ≡ make (program_of prog.now) first
+        (expr_of prog.now.types expression.now) to free code.old)) }
+    ensures below { IfOk result (λ found. IfSome found
+        (λ operand. size-Expr operand.now < size-Expr expression.now)) }
+{
+    match expression {
         Expr::Convert(_, operand) => {
-            put_operator(code, kept, to, free)?;
+            put_operator(code, expression, to, free)?;
             Ok(Some(operand))
         }
         Expr::Move {
@@ -115,7 +141,7 @@ fn lower_behind<'a>(
             pointer: right,
             ..
         } => {
-            put_operator(code, kept, to, free)?;
+            put_operator(code, expression, to, free)?;
             let above = next(free)?;
             lower_expression(code, right, above, next(above)?, prog, first)?;
             Ok(Some(left))
@@ -134,7 +160,7 @@ fn lower_behind<'a>(
             Ok(pointer_of(place))
         }
         _ => {
-            lower_form(code, kept, to, free, prog, first)?;
+            lower_form(code, expression, to, free, prog, first)?;
             Ok(None)
         }
     }
@@ -233,7 +259,7 @@ fn lower_form(
             Access::Struct { number, .. } => {
                 let from = behind(place, free)?;
                 let cells = cells_of_struct(code.alloc(), *number, &prog.types)?;
-                let groups = groups_in(place, &cells, prog, first)?;
+                let groups = groups_in(place, value, &cells, prog, first)?;
                 let at = place_at(place, free, first)?;
                 put_copy(code, to, from, at, groups, &cells)?;
                 lower_expression(code, value, from, next(from)?, prog, first)?;

@@ -1,4 +1,4 @@
-ghost use Rattle.std.specs.Prelude.{◌≡◌, ◌+◌, ◌<◌, ◌≤◌, ℕ, IfOk, IfSome, MatchOption, slice_get};
+ghost use Rattle.std.specs.Prelude.{◌≡◌, ◌+◌, ◌<◌, ℕ, IfOk, IfSome, MatchOption, slice_get};
 ghost use Rattle.std.specs.Option.{option_map};
 ghost use Rattle.im_ctype.specs.Table.{Table};
 ghost use Rattle.im_lower_relation.specs.Codes.{further_in};
@@ -76,28 +76,24 @@ pub(crate) fn pointer_of(place: &Place) -> Option<&Expr>
         ≡ make g first (expr_of types pointer.now) free (free + 1) m) }
     ensures below { IfSome result (λ pointer. size-Expr pointer.now < size-Place place.now) }
 {
-    let mut part = place;
-    loop {
-        match part {
-            Place::Static(_) | Place::Local(_) => return None,
-            Place::Target(pointer) => return Some(pointer),
-            Place::Member(whole, _) => part = whole,
-        }
+    match place {
+        Place::Static(_) | Place::Local(_) => None,
+        Place::Target(pointer) => Some(pointer),
+        Place::Member(whole, _) => pointer_of(whole),
     }
 }
 
-/// What casts to `void` stand around: its code is theirs.
-pub(crate) fn undiscarded(expression: &Expr) -> &Expr
-    ensures made { (types : Table) (g : program.Prog) (first to free : ℕ) (m : Made) →
-        make g first (expr_of types expression.now) to free m
-        ≡ make g first (expr_of types result.now) to free m }
-    ensures below { size-Expr result.now ≤ size-Expr expression.now }
+/// What a cast to `void` stands around: its code is that of the cast.
+pub(crate) fn discarded(expression: &Expr) -> Option<&Expr>
+    ensures made { (types : Table) (g : program.Prog) (first to free : ℕ) (m : Made) → IfSome result
+        (λ operand. make g first (expr_of types expression.now) to free m
+        ≡ make g first (expr_of types operand.now) to free m) }
+    ensures below { IfSome result (λ operand. size-Expr operand.now < size-Expr expression.now) }
 {
-    let mut rest = expression;
-    while let Expr::Discard(operand) = rest {
-        rest = operand;
+    match expression {
+        Expr::Discard(operand) => Some(operand),
+        _ => None,
     }
-    rest
 }
 
 /// What an expression gives: nothing, a value of a kind, or a struct.

@@ -1,13 +1,13 @@
-use Rattle.std.proofs.Common.{◌≡◌, ◌+◌, OnOk, length, refl, rules, ap, sym, ◌∙◌, subst}
+use Rattle.std.proofs.Common.{◌≡◌, ◌+◌, IfOk, MatchOption, OnOk, length, refl, rules, arith, ap, sym, ◌∙◌, subst}
 use Rattle.im_ctype.specs.Layout.{layouts, layout_at}
 use Rattle.im_ctype.specs.Table.{structs_of}
-use Rattle.im_typed.specs.declared.expression.Expr.{Expr}
+use Rattle.im_typed.specs.declared.expression.Expr.{Expr, size-Expr}
 use Rattle.im_typed.specs.declared.expression.Place.{Place}
 use Rattle.im_typed.specs.ProgramOf.{expr_of, place_of, program_of}
-use Rattle.im_lower_relation.specs.Codes.{is_whole}
+use Rattle.im_lower_relation.specs.Codes.{in_groups}
 use Rattle.im_lower_plain.specs.Made.{Made, close}
 use Rattle.im_lower_plain.specs.Make.{behind, groups_in, fails_made, holds_made, make, make_place, make_test, place_at, put_operator}
-use Rattle.im_lower.proofs.Makes.{and_made, choice_made, copy_made, increment_made, operator_made, or_made, struct_made, two_made, update_made, value_decides}
+use Rattle.im_lower.proofs.Makes.{address_left, and_made, below_more, choice_made, comma_left, converted_left, copy_made, increment_made, moved_left, operator_made, or_made, pointer_left, read_left, struct_made, two_made, update_made, value_decides}
 use Rattle.im_lower.proofs.Rows.{call_made}
 use Rattle.im_lower.proofs.expressions.+expressions.Goals as goal
 
@@ -166,14 +166,15 @@ lower_form-returns-in_ok-lower_expression-in-Struct t c =
     let from = c.in_ok-from-in-Struct.from in
     let beside = c.in_ok-next-in-Struct.field-0 in
     let behind_is = c.in_ok-from-in-Struct.ensures types ∙ ap (λ (x : Place). behind (place_of types x) c.args.free) c.deref-in-Struct.ensures in
-    let counted = c.deref-in-Struct-3.result.now in
-    let counted_is = c.deref-in-Struct-3.ensures.value ∙ c.in_ok-cells-in-Struct.ensures in
-    let many_is = c.in_ok-groups-in-Struct.ensures.gives ∙ ap (λ (x : Place). groups_in (is_whole g c.args.first (place_of types x) counted) counted) c.deref-in-Struct-2.ensures in
-    let at_is = c.in_ok-at-in-Struct.ensures types ∙ ap (λ (x : Place). place_at c.args.first (place_of types x) c.args.free) c.deref-in-Struct-4.ensures in
-    let found_is = c.deref-in-Struct-5.ensures.value ∙ c.in_ok-cells-in-Struct.ensures in
-    let value_is = c.in_ok-lower_expression-in-Struct.ensures ∙ ap (λ (x : Expr). make g c.args.first (expr_of types x) from beside m₁) c.deref-in-Struct-6.ensures in
-    let made = copy_made g c.args.first a e s.cells c.in_ok-groups-in-Struct.groups (layout_at (layouts (structs_of types)) s.number).cells c.deref-in-Struct-5.result.now counted c.args.to c.args.free from beside c.in_ok-at-in-Struct.at m m₁ m₂ behind_is found_is counted_is many_is at_is c.in_ok-put_copy-in-Struct.ensures c.in_ok-next-in-Struct.ensures value_is in
-    let walked = ap (λ (x : Place). make_place g c.args.first (place_of types x) c.args.free m₂) c.deref-in-Struct-7.ensures in
+    let counted = c.deref-in-Struct-4.result.now in
+    let counted_is = c.deref-in-Struct-4.ensures.value ∙ c.in_ok-cells-in-Struct.ensures in
+    let many_is = c.in_ok-groups-in-Struct.ensures.gives ∙ ap (λ (x : Place). groups_in (in_groups g c.args.first (place_of types x) counted (expr_of types c.deref-in-Struct-3.result.now)) counted) c.deref-in-Struct-2.ensures
+    ∙ ap (λ (x : Expr). groups_in (in_groups g c.args.first a counted (expr_of types x)) counted) c.deref-in-Struct-3.ensures in
+    let at_is = c.in_ok-at-in-Struct.ensures types ∙ ap (λ (x : Place). place_at c.args.first (place_of types x) c.args.free) c.deref-in-Struct-5.ensures in
+    let found_is = c.deref-in-Struct-6.ensures.value ∙ c.in_ok-cells-in-Struct.ensures in
+    let value_is = c.in_ok-lower_expression-in-Struct.ensures ∙ ap (λ (x : Expr). make g c.args.first (expr_of types x) from beside m₁) c.deref-in-Struct-7.ensures in
+    let made = copy_made g c.args.first a e s.cells c.in_ok-groups-in-Struct.groups (layout_at (layouts (structs_of types)) s.number).cells c.deref-in-Struct-6.result.now counted c.args.to c.args.free from beside c.in_ok-at-in-Struct.at m m₁ m₂ behind_is found_is counted_is many_is at_is c.in_ok-put_copy-in-Struct.ensures c.in_ok-next-in-Struct.ensures value_is in
+    let walked = ap (λ (x : Place). make_place g c.args.first (place_of types x) c.args.free m₂) c.deref-in-Struct-8.ensures in
     let whole = struct_made g c.args.first types c.args.expression.now w.access w.place w.value s.number s.cells c.args.to c.args.free m w.is s.is in
     subst (λ (z : Made). OnOk c.lower_place-in-Struct.result (c.lower_place-in-Struct.new.code ≡ z)) (walked ∙ made ∙ whole) c.lower_place-in-Struct.ensures
 
@@ -219,3 +220,72 @@ lower_place-returns-in_ok-next-in-Some t c =
     let reached = c.in-Some.ensures.made types g c.args.first c.args.free m in
     let above = ap (λ n. make g c.args.first (expr_of types c.in-Some.pointer.now) c.args.free n m) c.in_ok-next-in-Some.ensures in
     subst (λ (z : Made). OnOk c.lower_expression.result (c.lower_expression.new.code ≡ z)) (above ∙ sym reached) c.lower_expression.ensures
+
+pub lower_behind-loop-operand-preserved : goal.lower_behind-loop-operand-preserved
+lower_behind-loop-operand-preserved t c = (
+  λ types g first to free m. c.loop-operand.invariant.0 types g first to free m ∙ c.in-Some.ensures.made types g first to free m,
+  omega (arith, c.in-Some.ensures.below, c.loop-operand.invariant.1),
+)
+
+pub lower_behind-returns-clause-made : goal.lower_behind-returns-clause-made
+lower_behind-returns-clause-made t c =
+    let g = program_of c.args.prog.now in
+    let types = c.args.prog.now.types in
+    let m₁ = c.lower_link.new.code in
+    let kept = c.loop-operand.invariant.0 types g c.args.first c.args.to c.args.free c.args.code.now in
+    subst (λ (z : Made). IfOk c.lower_link.result (λ found. MatchOption found (m₁ ≡ z) (λ operand. make g c.args.first (expr_of types operand.now) c.args.free (c.args.free + 1) m₁ ≡ z))) (sym kept) c.lower_link.ensures.made
+
+pub lower_behind-returns-clause-below : goal.lower_behind-returns-clause-below
+lower_behind-returns-clause-below t c =
+    below_more c.lower_link.result (size-Expr c.loop-operand.kept.now) (size-Expr c.args.expression.now) c.loop-operand.invariant.1 c.lower_link.ensures.below
+
+pub lower_link-returns-in_ok-put_operator-in-Convert-clause-made : goal.lower_link-returns-in_ok-put_operator-in-Convert-clause-made
+lower_link-returns-in_ok-put_operator-in-Convert-clause-made t c =
+    let g = program_of c.args.prog.now in
+    let types = c.args.prog.now.types in
+    let w = c.in-Convert in
+    converted_left g c.args.first types c.args.expression.now c.deref.result.now w.field-0 w.operand c.args.to c.args.free c.args.code.now c.put_operator.new.code w.is c.deref.ensures (c.in_ok-put_operator-in-Convert.ensures types)
+
+pub lower_link-returns-in_ok-lower_expression-in-Comma-clause-made : goal.lower_link-returns-in_ok-lower_expression-in-Comma-clause-made
+lower_link-returns-in_ok-lower_expression-in-Comma-clause-made t c =
+    let g = program_of c.args.prog.now in
+    let types = c.args.prog.now.types in
+    let w = c.in-Comma in
+    comma_left g c.args.first types c.args.expression.now c.deref-in-Comma-2.result.now c.deref-in-Comma.result.now w.left w.right c.args.to c.args.free c.args.code.now c.lower_expression.new.code w.is c.deref-in-Comma-2.ensures c.deref-in-Comma.ensures c.in_ok-lower_expression-in-Comma.ensures
+
+pub lower_link-returns-in_ok-put_load-in-Read-clause-made : goal.lower_link-returns-in_ok-put_load-in-Read-clause-made
+lower_link-returns-in_ok-put_load-in-Read-clause-made t c =
+    let g = program_of c.args.prog.now in
+    let types = c.args.prog.now.types in
+    let w = c.in-Read in
+    let m₁ = c.put_load.new.code in
+    let read = read_left g c.args.first types c.args.expression.now w.access w.place c.deref-in-Read.result.now c.deref-in-Read-2.result.now c.in_ok-place_at-in-Read.field-0 c.args.to c.args.free c.args.code.now m₁ w.is c.deref-in-Read.ensures c.deref-in-Read-2.ensures (c.in_ok-place_at-in-Read.ensures types) (c.in_ok-put_load-in-Read.ensures types) in
+    pointer_left g c.args.first types c.pointer_of.result c.args.free m₁ (make_place g c.args.first (place_of types c.deref-in-Read-2.result.now) c.args.free m₁) (make g c.args.first (expr_of types c.args.expression.now) c.args.to c.args.free c.args.code.now) (c.pointer_of.ensures.made types g c.args.first c.args.free m₁) read
+
+pub lower_link-returns-in_ok-put-in-Address-clause-made : goal.lower_link-returns-in_ok-put-in-Address-clause-made
+lower_link-returns-in_ok-put-in-Address-clause-made t c =
+    let g = program_of c.args.prog.now in
+    let types = c.args.prog.now.types in
+    let w = c.in-Address in
+    let m₁ = c.put.new.self in
+    let address = address_left g c.args.first types c.args.expression.now w.place c.deref-in-Address.result.now c.deref-in-Address-2.result.now c.in_ok-at-in-Address.at c.args.to c.args.free c.args.code.now m₁ w.is c.deref-in-Address.ensures c.deref-in-Address-2.ensures (c.in_ok-at-in-Address.ensures types) c.in_ok-put-in-Address.ensures in
+    pointer_left g c.args.first types c.pointer_of-in-Address.result c.args.free m₁ (make_place g c.args.first (place_of types c.deref-in-Address-2.result.now) c.args.free m₁) (make g c.args.first (expr_of types c.args.expression.now) c.args.to c.args.free c.args.code.now) (c.pointer_of-in-Address.ensures.made types g c.args.first c.args.free m₁) address
+
+pub lower_link-returns-in_ok-lower_form-in_default : goal.lower_link-returns-in_ok-lower_form-in_default
+lower_link-returns-in_ok-lower_form-in_default t c = record { made = c.in_ok-lower_form-in_default.ensures; below = tt }
+
+pub lower_link-returns-in_ok-lower_expression-in-Move-clause-made : goal.lower_link-returns-in_ok-lower_expression-in-Move-clause-made
+lower_link-returns-in_ok-lower_expression-in-Move-clause-made t c =
+    let g = program_of c.args.prog.now in
+    let types = c.args.prog.now.types in
+    let w = c.in-Move in
+    let m = c.args.code.now in
+    let m₁ = c.put_operator-in-Move.new.code in
+    let m₂ = c.lower_expression-in-Move.new.code in
+    let above = c.in_ok-above-in-Move.above in
+    let further = c.in_ok-next-in-Move.field-0 in
+    let second = c.in_ok-lower_expression-in-Move.ensures ∙ ap (λ (x : Expr). make g c.args.first (expr_of types x) above further m₁) c.deref-in-Move.ensures in
+    let left = ap (λ (x : Expr). make g c.args.first (expr_of types x) c.args.free (c.args.free + 1) m₂) c.deref-in-Move-2.ensures in
+    let beside = ap (λ n. make g c.args.first (expr_of types w.left.value) c.args.free n m₂) (sym c.in_ok-above-in-Move.ensures) in
+    let moved = moved_left g c.args.first types c.args.expression.now w.left w.right c.args.to c.args.free above further m m₁ m₂ w.is (c.in_ok-put_operator-in-Move.ensures types) c.in_ok-above-in-Move.ensures c.in_ok-next-in-Move.ensures second in
+    left ∙ beside ∙ moved

@@ -1,6 +1,9 @@
-use Rattle.std.proofs.Common.{◌≡◌, ◌≤◌, ◌+◌, drop}
+use Rattle.std.proofs.Common.{◌≡◌, ◌≤◌, ◌+◌, ℕ, drop}
+use Rattle.im_ctype.specs.Table.{Table}
+use Rattle.im_typed.specs.Program.{Prog}
 use Rattle.im_typed.specs.declared.expression.Expr.{size-Expr}
 use Rattle.im_typed.specs.ProgramOf.{expr_of, program_of}
+use Rattle.im_lower_plain.specs.Made.{Made}
 use Rattle.im_lower_plain.specs.Make.{make}
 use Rattle.im_lower.specs.MakeEach.{make_each}
 use Rattle.im_lower.proofs.expressions.+expressions.Given as goal
@@ -16,3 +19,9 @@ invariant-lower_expression-loop-operand l =
     (make (program_of l.prog) l.first (expr_of l.prog.types l.expression) l.initial.to l.initial.free l.initial.code
     ≡ make (program_of l.prog) l.first (expr_of l.prog.types l.rest) l.to l.free l.code)
     × (size-Expr l.rest ≤ size-Expr l.expression)
+
+-- a cast to `void` puts nothing
+abbrev pub invariant-lower_behind-loop-operand : goal.invariant-lower_behind-loop-operand
+invariant-lower_behind-loop-operand l =
+    ((types : Table) (g : Prog) (first to free : ℕ) (m : Made) → make g first (expr_of types l.expression) to free m ≡ make g first (expr_of types l.kept) to free m)
+    × (size-Expr l.kept ≤ size-Expr l.expression)
