@@ -6,7 +6,6 @@ mod assembling;
 mod building;
 mod code;
 mod fault;
-mod folding;
 mod forcing;
 mod frames;
 mod kinds;
