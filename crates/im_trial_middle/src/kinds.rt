@@ -13,7 +13,7 @@ impl Kinds for Middle {
             "statics" => statics::statics_lie_apart(case),
             "assemble" => assembling::a_program_is_linked(case),
             "chain" => assembling::a_chain_takes_no_word(case),
-            "place" => placing::a_unit_is_placed(case),
+            "place" => placing::place_code(row, case),
             "select" => selecting::select_code(row, case),
             "losses" => losses::power_fails(case),
             _ => case.end(Stop::Row),
