@@ -1,6 +1,6 @@
 -- Numbers of accesses that rise from line to line: they are apart.
-use Rattle.std.proofs.Common.{◌≡◌, ◌≤◌, ◌<◌, ℕ, zero, suc, ◌+◌, List, [], ◌∷◌, ◌++◌, length, get_or, drop, Some, refl, sym, ap, subst, arith}
-use Rattle.std.specs.Prelude.{slice_get}
+use Rattle.std.proofs.Common.{◌≡◌, ◌≤◌, ◌<◌, ◌^◌, ℕ, zero, suc, ◌+◌, List, [], ◌∷◌, ◌++◌, length, get_or, drop, Option, None, Some, refl, sym, ap, subst, arith}
+use Rattle.std.specs.Prelude.{slice_get, IfSome, SomeIff}
 use Rattle.std.proofs.lemmas.List.{append_assoc, drop_more, drop_all}
 use Rattle.im_block.specs.declared.code.Line.{Line}
 use Rattle.im_block.specs.declared.code.Block.{Block}
@@ -33,6 +33,16 @@ once n (x ∷ xs) h (suc i) (suc j) a p q = ap (λ k. suc k) (once (suc x) xs h.
 
 pub rises_apart : (xs : List ℕ) → Rises 0 xs → AreApart xs
 rises_apart xs h = record { each = once 0 xs h }
+
+-- an access, by the sum that is the number behind it
+pub access_leads : (n access : ℕ) (sum : Option ℕ) → n ≤ access → SomeIff sum (access + 1 < 2 ^ 64) (access + 1) → IfSome sum (Leads n (access ∷ []))
+access_leads n access None low is = tt
+access_leads n access (Some next) low is = λ ys h.
+    let same : next ≡ suc access = (let e = is.1 in omega (arith, e)) in
+    (low, subst (λ k. Rises k ys) same h)
+
+pub none_leads : (n : ℕ) → Leads n [] n
+none_leads n ys h = h
 
 both : (n m k : ℕ) (xs ys : List ℕ) → Leads n xs m → Leads m ys k → Leads n (xs ++ ys) k
 both n m k xs ys one two zs h = subst (Rises n) (sym (append_assoc xs ys zs)) (one (ys ++ zs) (two zs h))

@@ -16,7 +16,7 @@ use Rattle.im_block.specs.Shape.{sum_of}
 use Rattle.im_block.specs.Wellformed.{LineWithin, ExitWithin, LineThere, Takes, IsBlock, IsFunction, IsStatic, AreApart, accesses_of_blocks, accesses_of_functions}
 use Rattle.im_alloc_placed.specs.Operands.{PlaceFrom}
 use Rattle.im_alloc_placed.specs.Placeable.{LineFrom, ExitFrom, Receives, first_free, IsPlaceableFunction}
-use Rattle.im_alloc_intervals.proofs.Blocks.{all_at}
+use Rattle.im_block.proofs.Unitwise.{all_at}
 use Rattle.im_alloc.specs.Sample.{IsTaken}
 use Rattle.im_trial_middle.specs.Unplaced.{IsFirst, IsSecond, CallsSecond, IsOpenBlock, Rises}
 use Rattle.im_trial_middle.proofs.Two.{all_of_two}

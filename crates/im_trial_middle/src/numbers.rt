@@ -1,9 +1,19 @@
-ghost use Rattle.std.specs.Prelude.{◌≡◌, true, [], ◌++◌, IfSome};
+ghost use Rattle.std.specs.Prelude.{◌≡◌, true, [], ◌∷◌, ◌++◌, IfSome};
 ghost use Rattle.im_block.specs.Wellformed.{accesses_of_blocks, accesses_of_line};
 ghost use Rattle.im_block.specs.Wellformed.{accesses_of_lines};
 ghost use Rattle.im_trial_middle.specs.Unplaced.{Leads, Rises};
 
 use im_block::{Block, Line};
+
+/// The number behind an access, unless that is less than a number.
+fn behind_access(number: u64, access: u64) -> Option<u64>
+    ensures { IfSome result (Leads number (access ∷ [])) }
+{
+    if access < number {
+        return None;
+    }
+    access.checked_add(1)
+}
 
 /// The number behind a line's access, unless that is less than a number; or this, where it has
 /// none.
@@ -11,15 +21,10 @@ fn behind_line(number: u64, line: &Line) -> Option<u64>
     ensures { IfSome result (Leads number (accesses_of_line line.now)) }
 {
     match *line {
-        Line::Read { access, .. }
-        | Line::Write { access, .. }
-        | Line::Reload { access, .. }
-        | Line::Spill { access, .. } => {
-            if access < number {
-                return None;
-            }
-            access.checked_add(1)
-        }
+        Line::Read { access, .. } => behind_access(number, access),
+        Line::Write { access, .. } => behind_access(number, access),
+        Line::Reload { access, .. } => behind_access(number, access),
+        Line::Spill { access, .. } => behind_access(number, access),
         _ => Some(number),
     }
 }

@@ -3,9 +3,8 @@ ghost use Rattle.im_alloc.specs.Sample.{IsTaken};
 ghost use Rattle.im_trial_middle.specs.Unplaced.{IsFirst, IsSecond};
 
 use crate::fault::{Fault, taken};
-use crate::numbers::accesses_rise;
 use crate::spelling::blocks_of;
-use crate::unplaced::are_open_blocks;
+use crate::unplaced::is_open;
 use im_alloc::place;
 use im_block::{Block, Exit, Function, Object, Registers, Unit};
 use im_trial::{Case, Row};
@@ -70,7 +69,7 @@ fn unit_of(alloc: Global, blocks: Vec<Block>) -> Result<Unit, Fault>
     ensures { IfOk result IsTaken }
 {
     let function = first(alloc, blocks)?;
-    if !are_open_blocks(&function, &function.blocks) || !accesses_rise(&function.blocks) {
+    if !is_open(&function) {
         return Err(Fault::Refused);
     }
     Ok(Unit {

@@ -1,11 +1,13 @@
-ghost use Rattle.std.specs.Prelude.{◌≡◌, ◌≢◌, ◌⊎◌, ◌<◌, ◌≤◌, ◌+◌, true, length, All};
+ghost use Rattle.std.specs.Prelude.{◌≡◌, ◌≢◌, ◌⊎◌, ◌<◌, ◌≤◌, ◌+◌, ◌++◌, [], true, length, All};
 ghost use Rattle.im_num.specs.declared.kind.Kind.TheVariants.{Ptr};
 ghost use Rattle.im_serve.specs.Services.{row, IsNullary, IsUnary};
+ghost use Rattle.im_block.specs.Wellformed.{accesses_of_blocks};
 ghost use Rattle.im_block.specs.Wellformed.{ExitThere, ExitWithin, LineWithin, PlaceWithin};
 ghost use Rattle.im_alloc_placed.specs.Operands.{IsPromoted, PlaceExists};
 ghost use Rattle.im_alloc_placed.specs.Placeable.{IsPlaceableLine};
-ghost use Rattle.im_trial_middle.specs.Unplaced.{CallsSecond, IsOpenBlock};
+ghost use Rattle.im_trial_middle.specs.Unplaced.{CallsSecond, IsOpenBlock, Rises};
 
+use crate::numbers::accesses_rise;
 use crate::placed::{GREATEST_OFFSET, SIZES, is_compared, is_integer, is_object, is_promoted};
 use im_block::{Block, Exit, Function, Line, Place};
 use im_num::Kind;
@@ -231,8 +233,7 @@ fn is_block(function: &Function, block: &Block) -> bool
     are_lines(function, &block.lines) && is_exit(function, block.exit)
 }
 
-/// Whether blocks are ones of block code that placing takes, in the function of a row.
-pub(crate) fn are_open_blocks(function: &Function, blocks: &[Block]) -> bool
+fn are_open_blocks(function: &Function, blocks: &[Block]) -> bool
     ensures { result ≡ true → All (IsOpenBlock function.now) blocks.now }
 {
     for block in blocks {
@@ -241,4 +242,14 @@ pub(crate) fn are_open_blocks(function: &Function, blocks: &[Block]) -> bool
         }
     }
     true
+}
+
+/// Whether the blocks of a row's function are ones of block code that placing takes, and the
+/// numbers of their accesses rise.
+pub(crate) fn is_open(function: &Function) -> bool
+    ensures blocks { result ≡ true → All (IsOpenBlock function.now) function.now.blocks.items }
+    ensures accesses { result ≡ true
+        → Rises 0 (accesses_of_blocks function.now.blocks.items ++ []) }
+{
+    are_open_blocks(function, &function.blocks) && accesses_rise(&function.blocks)
 }

@@ -4,4 +4,5 @@ use Rattle.im_trial_middle.proofs.placing.unit_of.Goals as goal
 
 pub returns : goal.returns
 returns c =
-    taken _ c.in_ok-first.field-0 c.in_ok-second.field-0 refl c.in_ok-vec.ensures.items refl c.in_ok-first.ensures (c.are_open_blocks.ensures c.if-are_open_blocks.true) (c.accesses_rise.ensures c.if-accesses_rise.true) c.in_ok-second.ensures
+    let yes = c.if-not-is_open.false in
+    taken _ c.in_ok-function.function c.in_ok-second.field-0 refl c.in_ok-vec.ensures.items refl c.in_ok-function.ensures (c.is_open.ensures.blocks yes) (c.is_open.ensures.accesses yes) c.in_ok-second.ensures
