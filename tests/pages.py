@@ -186,13 +186,15 @@ def chains(room):
     same("250 derivations", refused(room, types(250)), "built")
     same("251 derivations", refused(room, types(251)), "derivations 251 over 250")
     same("a long frame", refused(room, "int main(void) { char a[65530]; a[0] = 1; return a[0]; }")[:6], "frame ")
+    large = "struct s { char a[%d]; } x, y; void copy(struct s *p, struct s *q) { *p = *q; } int main(void) { copy(&x, &y); return 0; }"
+    same("a large struct through pointers", refused(room, large % 20000), "built")
     same("a frame", refused(room, "int main(void) { char a[65500]; a[0] = 1; return a[0]; }"), "built")
 
 
 @test("docs/pitfalls.md: each program has the cause that it stands under")
 def pitfalls(room):
-    sections = re.findall(r"^## U(\d):.*?^```c\n(.*?)^```", text_of("docs/pitfalls.md"), re.M | re.S)
-    same("the causes", [number for number, _ in sections], [str(it) for it in range(1, 10)])
+    sections = re.findall(r"^## U(\d+):.*?^```c\n(.*?)^```", text_of("docs/pitfalls.md"), re.M | re.S)
+    same("the causes", [number for number, _ in sections], [str(it) for it in range(1, 11)])
     for number, source in sections:
         room.file("u.c", source)
         room.call("eval", "u.c").wants(f"U{number}", 11, b"", f"intermit: undefined U{number}")

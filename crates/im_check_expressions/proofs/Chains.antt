@@ -1,5 +1,5 @@
 -- Chains of first operands: where their links lead, and what is known of a link from its first operand.
-use Rattle.std.proofs.Common.{◌≡◌, ◌≤◌, ℕ, Bool, true, false, List, [], ◌∷◌, ◌++◌, Option, Some, None, Result, Ok, Err, refl, sym, ap, subst, ◌∙◌}
+use Rattle.std.proofs.Common.{◌≡◌, ◌≤◌, ℕ, Bool, true, false, List, [], ◌∷◌, ◌++◌, Option, Some, None, Result, Ok, refl, sym, ap, subst}
 use Rattle.std.proofs.lemmas.Option.{none-some}
 use Rattle.im_ctree.specs.Tree as t
 use Rattle.im_ctree.specs.Shape.{expression_of}
@@ -33,7 +33,7 @@ use Rattle.im_check_expressions.specs.declared.links.Link.{Link}
 
 -- first operands
 
-given : t.Expression → Option t.Expression → t.Expression
+abbrev given : t.Expression → Option t.Expression → t.Expression
 given e None = e
 given e (Some f) = f
 
@@ -157,14 +157,14 @@ pub record Last (n : ℕ) (p : Place) (e : t.Expression) (ls : List Link) (l : L
 snoc : (n : ℕ) (p : Place) (e : t.Expression) (ls : List Link) (l : Link) (q r : Place) (f : t.Expression) → Outer n p e ls q (expression_in l.whole.now) → IsLinked q (expression_in l.whole.now) l.named r f → size-Expression l.whole.now ≤ n → Outer n p e (ls ++ l ∷ []) r f
 snoc n p e [] l q r f h linked below =
     let here = subst (λ (z : Place). IsLinked z (expression_in l.whole.now) l.named r f) h.0 linked in
-    (sym h.1, below, r, f, subst (λ z. IsLinked p z l.named r f) h.1 here, refl, refl)
+    (sym h.1, below, r, f, subst (λ z. IsLinked p z l.named r f) h.1 here, (refl, refl))
 snoc n p e (m ∷ ls) l q r f h linked below = (h.0, h.1, h.2, h.3, h.4, snoc n h.2 h.3 ls l q r f h.5 linked below)
 
 last : (n : ℕ) (p : Place) (e : t.Expression) (ls : List Link) (l : Link) (q : Place) (f : t.Expression) → Outer n p e (ls ++ l ∷ []) q f → Last n p e ls l q f
 last n p e [] l q f h = record {
   place = p;
   outer = (refl, sym h.0);
-  linked = subst (λ z. IsLinked p z l.named q f) h.0 (subst (λ z. IsLinked p e l.named q z) (sym h.6) (subst (λ (z : Place). IsLinked p e l.named z h.3) (sym h.5) h.4));
+  linked = subst (λ z. IsLinked p z l.named q f) h.0 (subst (λ z. IsLinked p e l.named q z) (sym h.5.1) (subst (λ (z : Place). IsLinked p e l.named z h.3) (sym h.5.0) h.4));
   below = h.1;
 }
 last n p e (m ∷ ls) l q f h =
@@ -213,7 +213,7 @@ named_none p at (k.PreStep' o r i a) other = refl
 named_none p at (k.Unary' o r i a) other = refl
 named_none p at (k.SizeOfExpression' r i a) other = refl
 named_none p at (k.SizeOfType' r n) other = refl
-named_none p at (k.Cast' r n q i a) other = other (record { pointer = r; value = n }) (record { pointer = q; value = record { at = i; kind = a } }) refl
+named_none p at (k.Cast' r n q i a) other = other (record { ptr = r.ptr; alloc = r.alloc; value = n }) (record { ptr = q.ptr; alloc = q.alloc; value = record { at = i; kind = a } }) refl
 named_none p at (k.Binary' o r i a q j e) other = refl
 named_none p at (k.Conditional' r i a q j e s l f) other = refl
 named_none p at (k.Assign' o r i a q j e) other = refl

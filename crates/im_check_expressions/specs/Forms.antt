@@ -1,5 +1,5 @@
 -- Which form an expression has: what a function that types one form of them is given.
-use Rattle.std.specs.Prelude.{◌≡◌, ◌⊎◌, ℕ, Box, Vec}
+use Rattle.std.specs.Prelude.{◌≡◌, ◌⊎◌, Box, Vec}
 use Rattle.std.specs.Global.{Global}
 use Rattle.im_ctree.specs.declared.declarator.TypeName.{TypeName}
 use Rattle.im_ctree.specs.declared.expression.Expression.{Expression}

@@ -29,7 +29,7 @@ deeper_more n (y ∷ ys) x all one = (all.0, deeper_more n ys x all.1 one)
 
 deeper_less : (n : ℕ) (xs : List (Bor Expression)) (x : Bor Expression) → NoneDeeper n (xs ++ x ∷ []) → (size-Expression x.now ≤ n) × NoneDeeper n xs
 deeper_less n [] x all = (all.0, tt)
-deeper_less n (y ∷ ys) x all = let rest = deeper_less n ys x all.1 in (rest.0, all.0, rest.1)
+deeper_less n (y ∷ ys) x all = let rest = deeper_less n ys x all.1 in (rest.0, (all.0, rest.1))
 
 pub none_deeper_more : (n : ℕ) (xs ys : List (Bor Expression)) (x : Bor Expression) → ys ≡ xs ++ x ∷ [] → NoneDeeper n xs → size-Expression x.now ≤ n → NoneDeeper n ys
 none_deeper_more n xs ys x more all one = subst (NoneDeeper n) (sym more) (deeper_more n xs x all one)

@@ -7,9 +7,9 @@ use Rattle.im_store.specs.Objects.{Value, Number, Store}
 use Rattle.im_store.specs.Pointers.{moved_by, bytes_moved}
 use Rattle.im_typed.specs.declared.expression.Change.{Change}
 use Rattle.im_typed.specs.declared.expression.Change.TheVariants.{Number as NumberBy, Move as PointerBy}
-use Rattle.im_typed.specs.Program.{Scalar}
-use Rattle.im_typed.specs.Runs.{Run, ◌>>=◌, in_store}
-use Rattle.im_typed.specs.Values.{Values, number_of, changed_kind, write_at}
+use Rattle.im_typed.specs.Program.{Access, Scalar}
+use Rattle.im_typed.specs.Runs.{Run, ◌>>=◌, checked, in_store}
+use Rattle.im_typed.specs.Values.{Values, number_of, cells_of, changed_kind, source_for, read_at, write_at}
 
 -- what a change makes of the old value where its operator gives its result at once: the machine works it out in one step
 abbrev pub altered : Change → Value → ℤ → Store → Checked Value
@@ -21,3 +21,7 @@ altered (PointerBy size back) old by store = moved_by store (bytes_moved size ba
 abbrev pub changes : Change → Value → ℤ → Value → Run Values
 changes by before z at =
     in_store (altered by before z) >>= (λ after. write_at (Scalar (changed_kind by)) at (after ∷ []))
+
+-- what stands at a place is read, and will be stored at another one
+abbrev pub read_for : Access → Value → Value → Run Values
+read_for x at from = checked (source_for (cells_of x) at from) >>= read_at x

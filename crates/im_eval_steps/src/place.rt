@@ -10,9 +10,9 @@ ghost use Rattle.im_eval_tasks.specs.declared.tasks.Task.TheVariants as task;
 ghost use Rattle.im_eval_steps.specs.Going.{Goes, follows, types_of};
 
 use crate::change::increment;
-use im_eval_machine::{Code, Found, Machine, Stopped, before_change, member, read_at};
+use im_eval_machine::{Code, Found, Machine, Stopped, before_change, member, read_at, read_for};
 use im_eval_store::Value;
-use im_eval_tasks::{At, Next, Now, Operand, Task, Whole};
+use im_eval_tasks::{At, Next, Now, Operand, Task, Whole, begin_store};
 use std::alloc::Global;
 
 /// What is done at a place.
@@ -36,9 +36,14 @@ pub fn resume_at<'p>(
             Ok(Next::Just(Now::Value(found)))
         }
         At::Address => Ok(Next::Just(Now::Value(Found::One(place)))),
-        At::Assign(access, value) => {
-            let task = Task::Whole(Whole::Store { access, place });
-            Ok(Next::Before(Now::Evaluate(value), task))
+        At::Assign(access, value) => Ok(begin_store(access, place, value)),
+        At::Source { access, target } => {
+            let found = read_for(alloc, code, machine, access, target, place)?;
+            let store = Whole::Store {
+                access,
+                place: target,
+            };
+            Ok(Next::Before(Now::Value(found), Task::Whole(store)))
         }
         At::Update(change, by) => {
             let before = before_change(machine, change, place)?;

@@ -91,6 +91,17 @@ impl Value {
             _ => Err(Undefined::UnrelatedPointers),
         }
     }
+
+    /// Whether so many bytes at two places overlap in part: they share some, and don't begin at
+    /// the same place (C11 6.5.16.1p3).
+    pub fn overlaps_in_part(self, size: u128, other: Value) -> bool
+        ensures { result ≡ pointers.overlap_in_part size (shown self) (shown other) }
+    {
+        match (self, other) {
+            (Value::Pointer(from), Value::Pointer(to)) => from.overlaps_in_part(size, to),
+            _ => false,
+        }
+    }
 }
 
 impl Place {
@@ -135,6 +146,16 @@ impl Place {
         Ok(Number {
             value: bytes / size as i128,
         })
+    }
+
+    /// Whether so many bytes at this place and at another one overlap in part.
+    fn overlaps_in_part(self, size: u128, other: Place) -> bool
+        ensures { result ≡ pointers.overlap_in_part size
+            (store.Pointer (object_of self.object) self.offset)
+            (store.Pointer (object_of other.object) other.offset) }
+    {
+        let apart = self.offset.abs_diff(other.offset);
+        self.object.is(other.object) && apart != 0 && (apart as u128) < size
     }
 }
 

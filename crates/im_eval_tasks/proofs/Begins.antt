@@ -23,8 +23,8 @@ use Rattle.im_typed.specs.declared.statement.Stmt.{Stmt}
 use Rattle.im_typed.specs.Program as p
 use Rattle.im_typed.specs.ProgramOf.{access_of}
 use Rattle.im_typed.specs.Runs.{State, Run, goes_on, ◌>>=◌, give, with_fuel, either, checked, in_store}
-use Rattle.im_typed.specs.Values.{Values, scalar, number, truth, used, value_in, number_in, number_of, cells_of, read_at, write_at, update}
-use Rattle.im_typed.specs.Meaning.{Around, Flow, Next, Returned, after, does, served, value_of, place_of}
+use Rattle.im_typed.specs.Values.{Values, scalar, number, truth, used, value_in, number_in, number_of, cells_of, read_at, update}
+use Rattle.im_typed.specs.Meaning.{Around, Flow, Next, Returned, after, does, is_read, served, source_of, stored, value_of, place_of}
 use Rattle.im_typed.specs.Programs.{Setting}
 use Rattle.im_eval_machine.specs.declared.here.Here.{Here}
 use Rattle.im_eval_machine.specs.declared.operator.Last.TheVariants as last
@@ -41,7 +41,7 @@ use Rattle.im_eval_tasks.specs.declared.tasks.Use.TheVariants as use_of
 use Rattle.im_eval_tasks.specs.declared.tasks.Rest.TheVariants as rest
 use Rattle.im_eval_tasks.specs.declared.tasks.Operand.{Operand}
 use Rattle.im_eval_tasks.specs.declared.tasks.Operand.TheVariants as operand
-use Rattle.im_eval_tasks.specs.Tasks.{operand_in, expr_in, boxed_in, loops, lefts, chooses}
+use Rattle.im_eval_tasks.specs.Tasks.{operand_in, expr_in, boxed_in, loops, lefts, chooses, stores}
 use Rattle.im_eval_tasks.specs.Stack.{Completion, Valued, Flowed, in_activation, operand_goes, place_goes, value_goes, flow_goes}
 use Rattle.im_eval_tasks.proofs.Binds.{assoc, strict, strict-number, numbered, computes, used-goes}
 
@@ -75,7 +75,8 @@ module _ (types : Table) (g : Setting) (n : ℕ) (h : Here) (next : Completion �
 
   pub assign_ : (a : p.Place) (x : Access) (e : Bor (Box Expr Global)) → goes_on (place_of c a s) (at_place (at.Assign x e)) ≡ goes_on (value_of c (p.Assign (access_of types x) a (operand_in types e)) s) on
   assign_ a x e =
-      sym (assoc (place_of c a s) (λ v. value_of c (operand_in types e) >>= (λ vs. used vs >>= (λ _. write_at (access_of types x) v vs))) on)
+      let value = operand_in types e in
+      sym (assoc (place_of c a s) (λ v. stored (access_of types x) v (is_read value) (value_of c value) (source_of c value) >>= stores types x v) on)
 
   pub increment_ : (a : p.Place) (change : Change) (old : Bool) → goes_on (place_of c a s) (at_place (at.Increment change old)) ≡ goes_on (value_of c (p.Increment a change old) s) on
   increment_ a change old = sym (assoc (place_of c a s) (update c.operates change old (give (pos 1))) on)

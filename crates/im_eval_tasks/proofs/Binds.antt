@@ -58,6 +58,10 @@ pub computes : {C : Type 0} (r : Checked ℤ) (f : ℤ → Checked ℤ) (s : Sta
 computes (Fine a) f s k = numbered (f a) (λ z. o.Number z) s k
 computes (Bad why) f s k = refl
 
+-- one run, then the next, and then two more
+pub assoc-twice : {A B C D : Type 0} (r : Answer A) (f : A → Run B) (g : B → Run C) (k : C → Run D) → goes_on r (λ a s. goes_on (goes_on (f a s) g) k) ≡ goes_on (goes_on (goes_on r f) g) k
+assoc-twice r f g k = sym (ap (λ x. goes_on x k) (assoc r f g) ∙ assoc r (λ a s. goes_on (f a s) g) k)
+
 -- what is done with a value that is used
 pub used-goes : {B C : Type 0} (r : Answer Values) (f : o.Value → Run B) (k : B → Run C) → goes_on r (λ vs s. goes_on (goes_on (used vs s) f) k) ≡ goes_on (goes_on (goes_on r used) f) k
-used-goes r f k = sym (ap (λ x. goes_on x k) (assoc r used f) ∙ assoc r (λ vs s. goes_on (used vs s) f) k)
+used-goes r f k = assoc-twice r used f k

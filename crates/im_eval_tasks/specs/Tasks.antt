@@ -1,5 +1,5 @@
 -- What tasks mean: what is still to do in an activation, in the terms of the meaning of programs.
-use Rattle.std.specs.Prelude.{ℕ, List, [], ◌∷◌, ◌++◌, map, drop, take, length, ℤ, pos, Option, Some, None, true, false}
+use Rattle.std.specs.Prelude.{◌≡◌, ℕ, List, [], ◌∷◌, ◌++◌, map, drop, take, length, ℤ, pos, Option, Some, None, true, false}
 use denote.Bor.{Bor}
 use Rattle.std.specs.Prelude.{Box}
 use Rattle.std.specs.declared.alloc.Global.{Global}
@@ -10,6 +10,7 @@ use Rattle.im_store.specs.Pointers.{moved_by, bytes_moved, distance, compare_val
 use Rattle.im_eval_store.specs.declared.value.Value.{Value}
 use Rattle.im_eval_store.specs.Shown.{shown}
 use Rattle.im_serve.specs.declared.service.Service.{Service}
+use Rattle.im_typed.specs.declared.expression.Access.{Access}
 use Rattle.im_typed.specs.declared.expression.Expr.{Expr}
 use Rattle.im_typed.specs.declared.expression.Place.{Place}
 use Rattle.im_typed.specs.declared.statement.Stmt.{Stmt}
@@ -18,16 +19,17 @@ use Rattle.im_typed.specs.Program as p
 use Rattle.im_typed.specs.ProgramOf.{access_of, place_of as typed_place, expr_of as typed_expr, stmt_of as typed_stmt, piece_of as typed_piece}
 use Rattle.im_typed.specs.Runs.{Run, ◌>>=◌, give, with_fuel, either, checked, in_store}
 use Rattle.im_typed.specs.Values.{Values, scalar, number, truth, used, value_in, number_in, number_of, cells_of, read_at, write_at, update}
-use Rattle.im_typed.specs.Meaning.{Around, Flow, Next, Returned, after, after_turn, change_store, cleared, does, does_from, entered, given_offsets, initialise, local, out_of_switch, served, turns, value_of, values_of}
+use Rattle.im_typed.specs.Meaning.{Around, Flow, Next, Returned, after, after_turn, change_store, cleared, does, does_from, entered, given_offsets, initialise, is_read, local, out_of_switch, place_of, served, source_of, stored, turns, value_of, values_of}
 use Rattle.im_eval_machine.specs.Small.{small_place, small_expr, small_stmt, small_piece}
 use Rattle.im_eval_machine.specs.declared.operator.Last.{Last}
 use Rattle.im_eval_machine.specs.Operators.{gives}
+use Rattle.im_eval_machine.specs.Steps.{read_for}
 use Rattle.im_eval_tasks.specs.declared.tasks.Left.{Left}
 use Rattle.im_eval_tasks.specs.declared.tasks.Left.TheVariants as left
 use Rattle.im_eval_tasks.specs.declared.tasks.Whole.{Whole}
 use Rattle.im_eval_tasks.specs.declared.tasks.Whole.TheVariants.{Comma, Discard, Part, Store as StoreAt}
 use Rattle.im_eval_tasks.specs.declared.tasks.At.{At}
-use Rattle.im_eval_tasks.specs.declared.tasks.At.TheVariants.{Read, Address, Assign, Update, Increment}
+use Rattle.im_eval_tasks.specs.declared.tasks.At.TheVariants.{Read, Address, Assign, Source, Update, Increment}
 use Rattle.im_eval_tasks.specs.declared.tasks.Call.{Call}
 use Rattle.im_eval_tasks.specs.declared.tasks.Loop.{Loop}
 use Rattle.im_eval_tasks.specs.declared.tasks.Switch.{Switch}
@@ -67,6 +69,15 @@ module _ (types : Table) where
   abbrev pub piece_in : Piece → p.Piece
   piece_in x = small_piece (typed_piece types x)
 
+  -- the place that an expression reads, where it is the value of one
+  abbrev pub Reads : p.Expr → Option (Bor Place) → Type 0
+  Reads e None = is_read e ≡ false
+  Reads e (Some a) = (is_read e ≡ true) × ((c : Around) → source_of c e ≡ place_of c (place_in a))
+
+  -- a value is stored at a place
+  abbrev pub stores : Access → o.Value → Values → Run Values
+  stores x at vs = used vs >>= (λ _. write_at (access_of types x) at vs)
+
   module _ (c : Around) where
     -- an operator with its right operand, from the value of its left one on
     abbrev pub lefts : Left → Bor (Box Expr Global) → o.Value → Run Values
@@ -96,13 +107,20 @@ module _ (types : Table) where
     wholes (Comma b) vs = value_of c (operand_in b)
     wholes Discard vs = give []
     wholes (Part from x) vs = give (take (length (cells_of (access_of types x))) (drop from vs))
-    wholes (StoreAt x at) vs = used vs >>= (λ _. write_at (access_of types x) (shown at) vs)
+    wholes (StoreAt x at) vs = stores x (shown at) vs
+
+    -- an expression is evaluated, and its value stored at a place
+    abbrev pub evaluates_for : Access → o.Value → p.Expr → Run Values
+    evaluates_for x at e = value_of c e >>= stores x at
 
     -- what is done at a place
     abbrev pub ats : At → o.Value → Run Values
     ats (Read x) at = read_at (access_of types x) at
     ats Address at = scalar at
-    ats (Assign x e) at = value_of c (operand_in e) >>= (λ vs. used vs >>= (λ _. write_at (access_of types x) at vs))
+    ats (Assign x e) at =
+        let value = operand_in e in
+        stored (access_of types x) at (is_read value) (value_of c value) (source_of c value) >>= stores x at
+    ats (Source x target) at = read_for (access_of types x) (shown target) at >>= stores x (shown target)
     ats (Update change e) at = update c.operates change false (number_in (value_of c (operand_in e))) at
     ats (Increment change old) at = update c.operates change old (give (pos 1)) at
 

@@ -8,6 +8,7 @@ mod laws;
 mod operator;
 mod statement;
 mod steps;
+mod store;
 mod tasks;
 
 pub use completion::Ended;
@@ -17,6 +18,7 @@ pub use laws::{call_law, small_view_law, turn_law};
 pub use operator::onward;
 pub use statement::{begin_statement, go_after, next_statement};
 pub use steps::{Next, Now};
+pub use store::begin_store;
 pub use tasks::{
     At, Call, Caller, Initialiser, Left, Loop, Operand, Rest, Statements, Switch, Task, Use, Whole,
 };

@@ -35,6 +35,8 @@ pub enum At<'p> {
     Read(Access),
     Address,
     Assign(Access, &'p Box<Expr>),
+    /// What stands there is stored at the target of an assignment.
+    Source { access: Access, target: Value },
     Update(Change, &'p Box<Expr>),
     Increment(Change, bool),
 }

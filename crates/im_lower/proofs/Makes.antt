@@ -16,7 +16,7 @@ use Rattle.im_typed.specs.ProgramOf.{access_of, expr_of, place_of}
 use Rattle.im_typed.specs.Values.{changed_kind}
 use Rattle.im_block.specs.declared.code.Exit.TheVariants.{Jump, Branch}
 use Rattle.im_block.specs.declared.code.Place.{Place}
-use Rattle.im_lower_relation.specs.Codes.{is_whole}
+use Rattle.im_lower_relation.specs.Codes.{in_groups}
 use Rattle.im_lower_plain.specs.Made.{Made, close, put_read, start}
 use Rattle.im_lower_plain.specs.Make.{behind, groups_in, make, make_place, make_test, place_at, put_change, put_copy, put_increment, put_operator}
 
@@ -104,14 +104,14 @@ module _ (g : p.Prog) (first : ℕ) where
       ∙ ap (put_read to (place_at first a free) (changed_kind change)) value)
 
   pub copy_made : (a : p.Place) (e : p.Expr) (count many : ℕ) (cells found counted : List Cell) (to free from beside : ℕ) (at : Place) (m m₁ m₂ : Made)
-      → from ≡ behind a free → found ≡ cells → counted ≡ cells → many ≡ groups_in (is_whole g first a counted) counted → at ≡ place_at first a free → m₁ ≡ put_copy to from at many found m
+      → from ≡ behind a free → found ≡ cells → counted ≡ cells → many ≡ groups_in (in_groups g first a counted e) counted → at ≡ place_at first a free → m₁ ≡ put_copy to from at many found m
       → beside ≡ from + 1 → m₂ ≡ make g first e from beside m₁
       → make_place g first a free m₂ ≡ make g first (p.Assign (p.Struct count cells) a e) to free m
   copy_made a e count many cells found counted to free from beside at m m₁ m₂ is_from is_found is_counted is_many is_at is₁ is_beside is₂ =
-      let put : m₁ ≡ put_copy to (behind a free) (place_at first a free) (groups_in (is_whole g first a cells) cells) cells m =
+      let put : m₁ ≡ put_copy to (behind a free) (place_at first a free) (groups_in (in_groups g first a cells e) cells) cells m =
       is₁ ∙ ap (λ n. put_copy to n at many found m) is_from ∙ ap (λ x. put_copy to (behind a free) x many found m) is_at
-      ∙ ap (λ n. put_copy to (behind a free) (place_at first a free) n found m) (is_many ∙ ap (λ cs. groups_in (is_whole g first a cs) cs) is_counted)
-      ∙ ap (λ cs. put_copy to (behind a free) (place_at first a free) (groups_in (is_whole g first a cells) cells) cs m) is_found in
+      ∙ ap (λ n. put_copy to (behind a free) (place_at first a free) n found m) (is_many ∙ ap (λ cs. groups_in (in_groups g first a cs e) cs) is_counted)
+      ∙ ap (λ cs. put_copy to (behind a free) (place_at first a free) (groups_in (in_groups g first a cells e) cells) cs m) is_found in
       let next : beside ≡ behind a free + 1 = is_beside ∙ ap (λ n. n + 1) is_from in
       ap (make_place g first a free)
       (is₂ ∙ ap (λ n. make g first e n beside m₁) is_from ∙ ap (λ n. make g first e (behind a free) n m₁) next

@@ -1,7 +1,11 @@
 ghost use Rattle.std.specs.Prelude.{◌≡◌, ◌≤◌, ◌+◌, ◌*◌, IfOk, OnOk, length, slice_get};
 ghost use Rattle.im_num.specs.Kinds.{kind_size};
-ghost use Rattle.im_typed.specs.ProgramOf.{place_of, program_of};
-ghost use Rattle.im_lower_relation.specs.Codes.{all_objects, extent, fills, is_whole, object_size, static_size};
+ghost use Rattle.im_ctype.specs.Table.{Table};
+ghost use Rattle.im_typed.specs.Meaning.{is_read};
+ghost use Rattle.im_typed.specs.ProgramOf.{expr_of, place_of, program_of};
+ghost use Rattle.im_typed.specs.Values.{extent};
+ghost use Rattle.im_lower_relation.specs.Codes.{all_objects, fills, fills_object, in_groups};
+ghost use Rattle.im_lower_relation.specs.Codes.{is_whole, object_size, static_size};
 ghost use Rattle.im_lower_plain.specs.Make.{groups_in, put_copy, put_group, put_groups};
 
 use crate::builder::{Builder, next, sum};
@@ -9,24 +13,53 @@ use crate::lines::{put_reads, put_writes};
 use im_block::Line;
 use im_ctype::{Cell, bytes_of_kind};
 use im_num::NoMemory;
-use im_typed::{Place, Prog};
+use im_typed::{Expr, Place, Prog};
 
 /// How many groups of 8 cells a struct is copied in, besides one of those that are left: none but
-/// this one where the place isn't a whole object, as a struct that is read may overlap it then.
+/// this one where the value may overlap the place in part.
 pub(crate) fn groups_in(
     place: &Place,
+    value: &Expr,
     cells: &[Cell],
     prog: &Prog,
     first: u32,
 ) -> Result<usize, NoMemory>
-    ensures gives { IfOk result (λ n. n ≡ groups_in (is_whole (program_of prog.now) first
-        (place_of prog.now.types place.now) cells.now) cells.now) }
+    ensures gives { IfOk result (λ n. n ≡ groups_in (in_groups (program_of prog.now) first
+        (place_of prog.now.types place.now) cells.now (expr_of prog.now.types value.now))
+        cells.now) }
     ensures few { IfOk result (λ n. 8 * n ≤ length cells.now) }
 {
-    if is_whole(place, cells, prog, first)? {
-        Ok(cells.len() / 8)
-    } else {
-        Ok(0)
+    let allowed = is_read(value) || is_whole(place, cells, prog, first)?;
+    Ok(groups_where(allowed, cells))
+}
+
+/// How many groups of 8 cells a struct of an initialiser is copied in, besides one of those that
+/// are left: none but this one where it doesn't fill its object.
+pub(crate) fn groups_of_piece(object: u32, cells: &[Cell], prog: &Prog) -> Result<usize, NoMemory>
+    ensures gives { IfOk result (λ n. n ≡ groups_in
+        (fills_object (program_of prog.now) object cells.now) cells.now) }
+    ensures few { IfOk result (λ n. 8 * n ≤ length cells.now) }
+{
+    let allowed = fills_object(object, cells, prog)?;
+    Ok(groups_where(allowed, cells))
+}
+
+/// How many groups of 8 cells there are, where a struct is copied in groups.
+fn groups_where(allowed: bool, cells: &[Cell]) -> usize
+    ensures gives { result ≡ groups_in allowed cells.now }
+    ensures few { 8 * result ≤ length cells.now }
+{
+    if allowed { cells.len() / 8 } else { 0 }
+}
+
+/// Whether a value is directly read from a place: an assignment reads it from its target, or from
+/// one that shares no byte with it (C11 6.5.16.1p3).
+fn is_read(value: &Expr) -> bool
+    ensures { (types : Table) → result ≡ is_read (expr_of types value.now) }
+{
+    match value {
+        Expr::Read(_, _) => true,
+        _ => false,
     }
 }
 
@@ -37,13 +70,18 @@ fn is_whole(place: &Place, cells: &[Cell], prog: &Prog, first: u32) -> Result<bo
 {
     match place {
         Place::Static(number) => fills(static_size(prog, *number), cells),
-        Place::Local(local) => {
-            let number = sum(first, *local)? as usize;
-            let size = object_size(prog, number.saturating_sub(prog.statics.len()));
-            fills(size, cells)
-        }
+        Place::Local(local) => fills_object(sum(first, *local)?, cells, prog),
         Place::Target(_) | Place::Member(_, _) => Ok(false),
     }
+}
+
+/// Whether an object of a function, by its number in the unit, ends where a struct of these cells
+/// does.
+fn fills_object(object: u32, cells: &[Cell], prog: &Prog) -> Result<bool, NoMemory>
+    ensures { IfOk result (λ same. same ≡ fills_object (program_of prog.now) object cells.now) }
+{
+    let number = (object as usize).saturating_sub(prog.statics.len());
+    fills(object_size(prog, number), cells)
 }
 
 /// Whether an object of so many bytes ends where a struct of these cells does.
@@ -120,7 +158,7 @@ pub(crate) fn put_copy(
 }
 
 /// Puts the copies of so many groups of 8 cells, one after the other, and of those that are left.
-fn put_groups(
+pub(crate) fn put_groups(
     code: &mut Builder,
     pointer: u32,
     place: im_block::Place,

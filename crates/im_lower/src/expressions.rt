@@ -233,7 +233,7 @@ fn lower_form(
             Access::Struct { number, .. } => {
                 let from = behind(place, free)?;
                 let cells = cells_of_struct(code.alloc(), *number, &prog.types)?;
-                let groups = groups_in(place, &cells, prog, first)?;
+                let groups = groups_in(place, value, &cells, prog, first)?;
                 let at = place_at(place, free, first)?;
                 put_copy(code, to, from, at, groups, &cells)?;
                 lower_expression(code, value, from, next(from)?, prog, first)?;

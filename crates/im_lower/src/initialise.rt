@@ -6,9 +6,10 @@ ghost use Rattle.im_lower_plain.specs.MakeStatement.{cell_offsets, cells_there, 
 ghost use Rattle.im_lower_relation.specs.Statements.{zero_line};
 ghost use Rattle.im_lower.specs.Marks.{AreMarks};
 
-use crate::builder::{Builder, next, sum};
+use crate::builder::{Builder, sum};
+use crate::copies::{groups_of_piece, put_groups};
 use crate::expressions::{Base, lower_value};
-use crate::lines::{put_reads, put_writes, small};
+use crate::lines::small;
 use im_block::{Line, Object, Place};
 use im_ctype::{Cell, cells_of_struct};
 use im_num::{Kind, NoMemory};
@@ -202,17 +203,16 @@ fn put_piece(
     access: Access,
     prog: &Prog,
 ) -> Result<(), NoMemory>
-    ensures { OnOk result (code.new ≡ put_piece low object offset (access_of prog.now.types access)
-        code.old) }
+    ensures { OnOk result (code.new ≡ put_piece (program_of prog.now) low object offset
+        (access_of prog.now.types access) code.old) }
 {
     let place = Place::Local { object, offset };
     match access {
         Access::Scalar(kind) => code.put_write(place, kind, low),
         Access::Struct { number, .. } => {
             let cells = cells_of_struct(code.alloc(), number, &prog.types)?;
-            let from = next(low)?;
-            put_writes(code, place, from, &cells)?;
-            put_reads(code, low, from, &cells)
+            let groups = groups_of_piece(object, &cells, prog)?;
+            put_groups(code, low, place, groups, &cells)
         }
     }
 }

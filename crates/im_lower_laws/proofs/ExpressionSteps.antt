@@ -19,7 +19,7 @@ use Rattle.im_typed.specs.Counts.{place_nodes, expr_nodes, exprs_nodes, conversi
 use Rattle.im_block.specs.declared.code.Place.{Place}
 use Rattle.im_block.specs.declared.code.Place.TheVariants.{Static, Local, Through}
 use Rattle.im_block.specs.declared.code.Exit.TheVariants.{Jump, Branch}
-use Rattle.im_lower_relation.specs.Codes.{further_in, cells_of_shape, offset_in, count_of, is_whole}
+use Rattle.im_lower_relation.specs.Codes.{further_in, cells_of_shape, offset_in, count_of, in_groups}
 use Rattle.im_lower_relation.specs.Lowered.{HasParameters}
 use Rattle.im_lower_plain.specs.Made.{Made, put, close, start}
 use Rattle.im_lower_plain.specs.Make.{place_at, behind, groups_in, part_offset, fails_made, holds_made, make_place, make, make_arguments, make_test}
@@ -469,7 +469,7 @@ module _ (g : p.Prog) (f : p.Func) (code : Function) (first low limit : ℕ) (pr
         at_most g code low limit (c + 64 * (1 + count + place_nodes a + expr_nodes e)) t (omega arith) (omega arith)
         (place_adds a (c + 12 + 24 * length cells + 64 * expr_nodes e) t m _ free ty.1 lf (omega arith)
         (adds e ty.2 (c + 12 + 24 * length cells) t m _ from (from + 1) (omega arith) (omega arith) (omega arith) (omega arith)
-        (adds_groups g code low limit from (place_at first a free) (groups_in (is_whole g first a cells) cells) cells (register from (omega arith) (omega arith)) good
+        (adds_groups g code low limit from (place_at first a free) (groups_in (in_groups g first a cells e) cells) cells (register from (omega arith) (omega arith)) good
         (nearer 0 cells (omega arith) cells_near) (nearer (place_offset (place_at first a free)) cells (omega arith) cells_near) (omega arith)
         (adds_address g code low limit to (place_at first a free) (register to lt t1) good h))))
     adds (p.Update a change e) ty c t m n to free lt lf t1 le h =

@@ -21,18 +21,18 @@ use Rattle.std.proofs.lemmas.Bool.{eqb-true}
 use Rattle.std.proofs.Common.{◌==◌, inl}
 use Rattle.im_block.specs.declared.code.Place.TheVariants.{Local}
 use Rattle.im_block.specs.declared.code.Exit.TheVariants.{Jump, Turn, Branch, Return}
-use Rattle.im_lower_relation.specs.Codes.{ends}
+use Rattle.im_lower_relation.specs.Codes.{ends, fills_object}
 use Rattle.im_lower_relation.specs.Statements.{zero_line, kind_in}
 use Rattle.im_lower_relation.specs.Lowered.{loops_in, loops_among, AreObjects}
 use Rattle.im_lower_plain.specs.Made.{Made, put, put_write, close, start, turn}
-use Rattle.im_lower_plain.specs.Make.{make, make_test}
+use Rattle.im_lower_plain.specs.Make.{groups_in, make, make_test}
 use Rattle.im_lower_plain.specs.MakeStatement.{put_zero, put_rest, put_piece, label_at, put_cases, make_pieces, make_return, test_made, cells_there, make_statement, make_block, make_labelled, labels_of}
 use Rattle.im_lower_plain.proofs.Growth.{Grows, stays, grows_on, grows_close, grows_start, grows_turn, close_length, start_blocks, got_last}
 use Rattle.im_lower_plain.proofs.Grown.{grows, decision_grows}
 use Rattle.im_lower_plain.proofs.GrownStatements.{test_grows, statement_grows, block_grows, labelled_grows, cases_grow}
 use Rattle.im_lower_plain.proofs.CodedStatements.{cells_same}
 use Rattle.im_lower_laws.proofs.Steps.{Step, at_most, step_close, step_start, step_turn}
-use Rattle.im_lower_laws.proofs.LineSteps.{Good_register, GoodPlace, adds_put, adds_null, adds_compare, adds_write, adds_reads, adds_writes}
+use Rattle.im_lower_laws.proofs.LineSteps.{Good_register, GoodPlace, adds_put, adds_null, adds_compare, adds_write, adds_groups}
 use Rattle.im_lower_laws.proofs.ExpressionSteps.{Premises, HasObjects, AreNear, promoted, laid_near, nearer, nodes_positive, local_there, adds, adds_test}
 use Rattle.im_lower_laws.proofs.Given.{Stands, few_given, given_count}
 
@@ -152,7 +152,7 @@ module _ (g : p.Prog) (f : p.Func) (code : Function) (first low limit : ℕ) (pr
       either true x y = x
       either false x y = y
 
-  piece_adds : (object offset : ℕ) (x : p.Access) (c t : ℕ) (m n : Made) → HasObject code object → offset ≤ 1048576 → Each {A = Cell} (λ c. offset + c.offset ≤ 2097152) (cells_of x) → IsAccess x → low + 1 + length (cells_of x) ≤ limit → S c t m n → S (c + 24 * length (cells_of x)) t m (put_piece low object offset x n)
+  piece_adds : (object offset : ℕ) (x : p.Access) (c t : ℕ) (m n : Made) → HasObject code object → offset ≤ 1048576 → Each {A = Cell} (λ c. offset + c.offset ≤ 2097152) (cells_of x) → IsAccess x → low + 1 + length (cells_of x) ≤ limit → S c t m n → S (c + 24 * length (cells_of x)) t m (put_piece g low object offset x n)
   piece_adds object offset (p.Scalar kind) c t m n there near each access le h =
       let r : Good_register low limit low = record { from = omega arith; below = omega arith } in
       at_most g code low limit (c + 24 * length (cells_of (p.Scalar kind))) t (omega arith) (omega arith)
@@ -160,8 +160,8 @@ module _ (g : p.Prog) (f : p.Func) (code : Function) (first low limit : ℕ) (pr
   piece_adds object offset (p.Struct count cells) c t m n there near each access le h =
       let r : Good_register low limit low = record { from = omega arith; below = omega arith } in
       at_most g code low limit (c + 24 * length cells) t (omega arith) (omega arith)
-      (adds_reads g code low limit low (low + 1) cells r (nearer 0 cells (omega arith) (laid_near 0 1048576 cells (omega arith) access.2)) (omega arith) (omega arith)
-      (adds_writes g code low limit (Local object offset) (low + 1) cells (local_good object offset there (omega arith)) each (omega arith) (omega arith) h))
+      (adds_groups g code low limit low (Local object offset) (groups_in (fills_object g object cells) cells) cells r (local_good object offset there (omega arith))
+      (nearer 0 cells (omega arith) (laid_near 0 1048576 cells (omega arith) access.2)) each (omega arith) h)
 
   stands_of : (cells : List Cell) (ps : List p.Piece) → Each (IsPieceOf g f cells) ps → Each (Stands cells) ps
   stands_of cells [] h = tt
@@ -176,7 +176,7 @@ module _ (g : p.Prog) (f : p.Func) (code : Function) (first low limit : ℕ) (pr
       let rest = pieces_add cells object qs c t m n there near ty.1 (omega arith) h in
       let words = c + 24 * length (given_offsets qs) + 64 * sum_by piece_nodes qs in
       at_most g code low limit (c + 24 * length (given_offsets (q ∷ qs)) + 64 * sum_by piece_nodes (q ∷ qs)) t (omega arith) (omega arith)
-      (adds_value q.value one.1 (words + 24 * length (cells_of q.access)) t m (put_piece low object q.offset q.access (make_pieces g first low object qs n)) (omega arith)
+      (adds_value q.value one.1 (words + 24 * length (cells_of q.access)) t m (put_piece g low object q.offset q.access (make_pieces g first low object qs n)) (omega arith)
       (piece_adds object q.offset q.access words t m (make_pieces g first low object qs n) there (first_near cells (cells_of q.access) q.offset (cells_positive q.access one.0) near one.3) (stands_near cells (cells_of q.access) q.offset near one.3) one.0 (omega arith) rest))
 
   abbrev IsResult : Option p.Expr → Type 0

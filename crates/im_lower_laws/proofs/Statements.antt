@@ -17,7 +17,7 @@ use Rattle.im_block.specs.declared.code.Block.{Block}
 use Rattle.im_alloc_relation.specs.Live.{uses, sets}
 use Rattle.im_lower_relation.specs.Codes.{Point, before, ends, Begins, Codes, CodesTest}
 use Rattle.im_lower_relation.specs.Statements.{zero_line, kind_in, start_at, CodesRest, Passes, CodesCases, CodesPiece, CodesPieces, CodesReturn, CodesStatement, CodesStatements}
-use Rattle.im_lower_laws.proofs.Ways.{Or, OrPlace, unplaced, Allows, weaker, lower, sets_none, sets_two, writes, writes_row, reads_row, at_block, as_turn, jump, branch}
+use Rattle.im_lower_laws.proofs.Ways.{Or, OrPlace, unplaced, Allows, weaker, lower, sets_none, sets_two, writes, groups_row, at_block, as_turn, jump, branch}
 use Rattle.im_lower_laws.proofs.Values.{allows, test_allows}
 
 pub strong : (P : ℕ → Type 0) → ((i : ℕ) → ((m : ℕ) → m < i → P m) → P i) → (i : ℕ) → P i
@@ -148,9 +148,8 @@ module _ (g : p.Prog) (f : p.Func) (first low : ℕ) (objects : List p.LocalObje
           expression_calm q.value s _ n d.1 write
       piece (p.Struct count cells) d after =
           let place = weaker blocks n c.0 (Below low) (OrPlace (Local object q.offset) (Below low)) after (λ v y. inr y) in
-          let written = writes_row blocks n (Local object q.offset) (low + 1) cells d.1 c.0 (Below low) place in
-          let taken = reads_row blocks n low (low + 1) cells d.0 _ (OrPlace (Local object q.offset) (Below low)) d.2 written in
-          expression_calm q.value s _ n d.4 (weaker blocks n _ _ (Or low (Below low)) taken (λ v y. unlocal low object q.offset (Below low) v y))
+          let copied = groups_row blocks n low (Local object q.offset) d.1 cells d.0 c.0 (Below low) d.4 place in
+          expression_calm q.value s _ n d.3 (weaker blocks n _ _ (Or low (Below low)) copied (λ v y. unlocal low object q.offset (Below low) v y))
 
   return_calm : (e : Option p.Expr) (s : Point) (n : ℕ) → CodesReturn g first low objects blocks e s → Calm low blocks n s
   return_calm None s n c = subst (λ z. Calm low blocks n z) (sym c) (record { is = λ k v le y. absurd (both_ways false refl y) })

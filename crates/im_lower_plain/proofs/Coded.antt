@@ -11,7 +11,7 @@ use Rattle.im_block.specs.declared.code.Line.{Line}
 use Rattle.im_block.specs.declared.code.Line.TheVariants.{Put, Convert, Unary, Not, Compute, Compare, Move, Distance, Address, Read, Write, Call, Serve}
 use Rattle.im_block.specs.declared.code.Exit.TheVariants.{Jump, Branch}
 use Rattle.im_block.specs.declared.code.Block.{Block}
-use Rattle.im_lower_relation.specs.Codes.{Point, before, ends, Begins, further_in, above, where_of, reads_of, writes_of, count_of, Codes, CodesPlace, CodesArguments, CodesGroup, CodesGroups, is_whole, CodesTest}
+use Rattle.im_lower_relation.specs.Codes.{Point, before, ends, Begins, further_in, above, where_of, reads_of, writes_of, count_of, Codes, CodesPlace, CodesArguments, CodesGroup, CodesGroups, in_groups, CodesTest}
 use Rattle.im_lower_plain.specs.Made.{Made, put, put_read, put_write, close, start}
 use Rattle.im_lower_plain.specs.Make.{place_at, behind, put_reads, put_writes, put_group, put_groups, groups_in, put_change, put_increment, part_offset, fails_made, holds_made, make_place, make, make_arguments, make_test}
 use Rattle.im_lower_plain.proofs.Growth.{Grows, stays, grows_on, grows_put, grows_read, grows_write, grows_close, grows_start, Later, later_before, closed_begins}
@@ -61,13 +61,13 @@ group_coded pointer place cells m =
     let r = reads_point pointer (pointer + 1) cells (put_writes place (pointer + 1) cells m) in
     (r.numbers, w.numbers, r.count, w.count, r.point ∙ ap (λ q. reads_of pointer (pointer + 1) cells r.numbers q) w.point)
 
-groups_coded : (pointer : ℕ) (place : Place) (n : ℕ) (cells : List Cell) (m : Made) → CodesGroups pointer place n cells (put_groups pointer place n cells m).point m.point
+pub groups_coded : (pointer : ℕ) (place : Place) (n : ℕ) (cells : List Cell) (m : Made) → CodesGroups pointer place n cells (put_groups pointer place n cells m).point m.point
 groups_coded pointer place zero cells m = group_coded pointer place cells m
 groups_coded pointer place (suc n) cells m =
     let rest = put_groups pointer place n (drop 8 cells) m in
     (rest.point, group_coded pointer place (take 8 cells) rest, groups_coded pointer place n (drop 8 cells) m)
 
-groups_allowed : (whole : Bool) (cells : List Cell) → (groups_in whole cells ≡ 0) ⊎ (whole ≡ true)
+pub groups_allowed : (whole : Bool) (cells : List Cell) → (groups_in whole cells ≡ 0) ⊎ (whole ≡ true)
 groups_allowed false cells = inl refl
 groups_allowed true cells = inr refl
 
@@ -261,8 +261,8 @@ module _ (g : p.Prog) (first : ℕ) (later : List Block) where
     coded (p.Assign (p.Struct count cells) a e) to free m low le l =
         let at = place_at first a free in
         let from = behind a free in
-        let whole = is_whole g first a cells in
-        let many = groups_in whole cells in
+        let allowed = in_groups g first a cells e in
+        let many = groups_in allowed cells in
         let address = put (Address to at) m in
         let copied = put_groups from at many cells address in
         let n = make g first e from (from + 1) copied in
@@ -272,7 +272,7 @@ module _ (g : p.Prog) (first : ℕ) (later : List Block) where
           n.point,
           copied.point,
           many,
-          groups_allowed whole cells,
+          groups_allowed allowed cells,
           place_coded a free n low (further_on low le (grows g first e from (from + 1) grown)) l,
           both.0,
           both.1,

@@ -13,15 +13,15 @@ use Rattle.im_block.specs.declared.code.Place.TheVariants.{Local}
 use Rattle.im_block.specs.declared.code.Line.TheVariants.{Put, Compare, Write}
 use Rattle.im_block.specs.declared.code.Exit.TheVariants.{Jump, Turn, Branch, Return}
 use Rattle.im_block.specs.declared.code.Block.{Block}
-use Rattle.im_lower_relation.specs.Codes.{Point, before, ends, Begins, reads_of, writes_of, Codes, CodesTest}
+use Rattle.im_lower_relation.specs.Codes.{Point, before, ends, Begins, fills_object, CodesTest}
 use Rattle.im_lower_relation.specs.Statements.{zero_line, kind_in, start_at, CodesRest, CodesCases, CodesPiece, CodesPieces, CodesReturn, CodesStatement, CodesStatements}
 use Rattle.im_lower_relation.specs.Lowered.{AreObjects, CodesParameters, kind_of_one, brace}
 use Rattle.im_lower_plain.specs.Made.{Made, put, put_read, put_write, close, start, turn}
-use Rattle.im_lower_plain.specs.Make.{put_reads, put_writes, make, make_test}
+use Rattle.im_lower_plain.specs.Make.{groups_in, put_groups, make, make_test}
 use Rattle.im_lower_plain.specs.MakeStatement.{put_zero, put_rest, put_piece, put_parameters, label_at, put_case, put_cases, make_brace, make_piece, make_pieces, make_return, test_made, cells_there, make_statement, make_block, make_labelled, labels_of}
 use Rattle.im_lower_plain.proofs.Growth.{Grows, stays, grows_on, grows_put, grows_close, grows_start, grows_turn, close_length, turn_blocks, got_last, got_other, got_same, Later, later_before, closed_begins}
-use Rattle.im_lower_plain.proofs.Grown.{grows, decision_grows, reads_grow, writes_grow}
-use Rattle.im_lower_plain.proofs.Coded.{reads_point, writes_point, further_on, coded, test_coded}
+use Rattle.im_lower_plain.proofs.Grown.{grows, decision_grows, groups_grow}
+use Rattle.im_lower_plain.proofs.Coded.{groups_coded, groups_allowed, further_on, coded, test_coded}
 use Rattle.im_lower_plain.proofs.GrownStatements.{rest_grows, piece_grows, cases_grow, pieces_grow, test_grows, statement_grows, block_grows, labelled_grows}
 
 -- the block that was closed last
@@ -107,30 +107,27 @@ label_only x k =
     ap (λ n. slice_index_or (x ∷ []) n 0) e
 
 module _ (g : p.Prog) (first low : ℕ) (os : List Object) (objects : List p.LocalObject) (are : AreObjects objects os) (later : List Block) where
-  piece_coded : (object offset : ℕ) (x : p.Access) (e : p.Expr) (m : Made) (bottom : ℕ) → bottom ≤ length m.blocks → Later bottom (make g first e low (low + 1) (put_piece low object offset x m)) later → CodesPiece g first low objects later object offset x e (make g first e low (low + 1) (put_piece low object offset x m)).point m.point
+  piece_coded : (object offset : ℕ) (x : p.Access) (e : p.Expr) (m : Made) (bottom : ℕ) → bottom ≤ length m.blocks → Later bottom (make g first e low (low + 1) (put_piece g low object offset x m)) later → CodesPiece g first low objects later object offset x e (make g first e low (low + 1) (put_piece g low object offset x m)).point m.point
   unfolding put put_read put_write
   piece_coded object offset (p.Scalar kind) e m bottom le l =
       (m.accesses, coded g first later e low (low + 1) (put_write (Local object offset) kind low m) bottom le l)
   piece_coded object offset (p.Struct count cells) e m bottom le l =
-      let stored = put_writes (Local object offset) (low + 1) cells m in
-      let copied = put_reads low (low + 1) cells stored in
-      let n = make g first e low (low + 1) copied in
-      let w = writes_point (Local object offset) (low + 1) cells m in
-      let r = reads_point low (low + 1) cells stored in
-      let grown : Grows m copied = reads_grow low (low + 1) cells (writes_grow (Local object offset) (low + 1) cells (stays m)) in
-      let same : copied.point ≡ reads_of low (low + 1) cells r.numbers (writes_of (Local object offset) (low + 1) cells w.numbers m.point) = r.point ∙ ap (λ q. reads_of low (low + 1) cells r.numbers q) w.point in (
-        r.numbers,
-        w.numbers,
-        r.count,
-        w.count,
-        subst (λ q. Codes g first later e low (low + 1) n.point q) same (coded g first later e low (low + 1) copied bottom (further_on bottom le grown) l),
+      let allowed = fills_object g object cells in
+      let many = groups_in allowed cells in
+      let copied = put_groups low (Local object offset) many cells m in
+      let grown : Grows m copied = groups_grow low (Local object offset) many cells (stays m) in (
+        copied.point,
+        many,
+        groups_allowed allowed cells,
+        coded g first later e low (low + 1) copied bottom (further_on bottom le grown) l,
+        groups_coded low (Local object offset) many cells m,
       )
 
   pieces_coded : (object : ℕ) (ps : List p.Piece) (m : Made) (bottom : ℕ) → bottom ≤ length m.blocks → Later bottom (make_pieces g first low object ps m) later → CodesPieces g first low objects later object ps (make_pieces g first low object ps m).point m.point
   pieces_coded object [] m bottom le l = refl
   pieces_coded object (q ∷ qs) m bottom le l =
       let rest = make_pieces g first low object qs m in
-      let on : Grows rest (make_piece g first low object q rest) = grows g first q.value low (low + 1) (piece_grows low object q.offset q.access (stays rest)) in (
+      let on : Grows rest (make_piece g first low object q rest) = grows g first q.value low (low + 1) (piece_grows g low object q.offset q.access (stays rest)) in (
         rest.point,
         piece_coded object q.offset q.access q.value rest bottom (further_on bottom le (pieces_grow g first low object qs (stays m))) l,
         pieces_coded object qs m bottom le (later_before on l),

@@ -11,7 +11,7 @@ use Rattle.im_block.specs.declared.code.Place.{Place}
 use Rattle.im_block.specs.declared.code.Place.TheVariants.{Through}
 use Rattle.im_block.specs.declared.code.Line.TheVariants.{Put, PutNull, Convert, Unary, Not, Compute, Compare, Move, Distance, Address, Call, Serve}
 use Rattle.im_block.specs.declared.code.Exit.TheVariants.{Jump, Branch}
-use Rattle.im_lower_relation.specs.Codes.{further_in, count_of, is_whole}
+use Rattle.im_lower_relation.specs.Codes.{further_in, count_of, in_groups}
 use Rattle.im_lower_plain.specs.Made.{Made, start}
 use Rattle.im_lower_plain.specs.Make.{place_at, behind, put_load, put_reads, put_writes, put_groups, groups_in, put_change, changed_in, part_offset, fails_made, holds_made, make_place, make, make_arguments, make_test}
 use Rattle.im_lower_plain.proofs.Growth.{Grows, grows_put, grows_read, grows_write, grows_close, grows_start}
@@ -89,7 +89,7 @@ module _ (g : p.Prog) (first : ℕ) where
         place_grows a free (grows e to (behind a free) (grows_write (place_at first a free) kind to h))
     grows (p.Assign (p.Struct count cells) a e) to free h =
         place_grows a free (grows e (behind a free) (behind a free + 1)
-        (groups_grow (behind a free) (place_at first a free) (groups_in (is_whole g first a cells) cells) cells (grows_put (Address to (place_at first a free)) h)))
+        (groups_grow (behind a free) (place_at first a free) (groups_in (in_groups g first a cells e) cells) cells (grows_put (Address to (place_at first a free)) h)))
     grows (p.Update a change e) to free h =
         place_grows a free (grows_read to (place_at first a free) (changed_kind change)
         (grows e (behind a free) (behind a free + 1) (change_grows change to to (behind a free) (place_at first a free) h)))

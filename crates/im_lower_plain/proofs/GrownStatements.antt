@@ -12,11 +12,13 @@ use Rattle.im_block.specs.declared.unit.Object.{Object}
 use Rattle.im_block.specs.declared.code.Place.TheVariants.{Local}
 use Rattle.im_block.specs.declared.code.Line.TheVariants.{Put, Compare}
 use Rattle.im_block.specs.declared.code.Exit.TheVariants.{Jump, Turn, Return}
+use Rattle.im_lower_relation.specs.Codes.{fills_object}
 use Rattle.im_lower_relation.specs.Statements.{zero_line, kind_in}
 use Rattle.im_lower_plain.specs.Made.{Made, close}
+use Rattle.im_lower_plain.specs.Make.{groups_in}
 use Rattle.im_lower_plain.specs.MakeStatement.{put_rest, put_piece, label_at, put_cases, make_pieces, make_return, test_made, cells_there, make_statement, make_block, make_labelled}
 use Rattle.im_lower_plain.proofs.Growth.{Grows, grows_put, grows_write, grows_close, grows_start, grows_turn, close_length}
-use Rattle.im_lower_plain.proofs.Grown.{grows, decision_grows, reads_grow, writes_grow}
+use Rattle.im_lower_plain.proofs.Grown.{grows, decision_grows, groups_grow}
 
 if_grows : {m a b : Made} (c : Bool) → Grows m a → Grows m b → Grows m (if c then a else b)
 if_grows true h k = h
@@ -28,10 +30,10 @@ rest_grows low object given (c ∷ cs) h =
     let rest = rest_grows low object given cs h in
     if_grows (is_among c.offset given) rest (grows_put (zero_line low c.kind) (grows_write (Local object c.offset) c.kind low rest))
 
-pub piece_grows : {m n : Made} (low object offset : ℕ) (x : p.Access) → Grows m n → Grows m (put_piece low object offset x n)
-piece_grows low object offset (p.Scalar kind) h = grows_write (Local object offset) kind low h
-piece_grows low object offset (p.Struct count cells) h =
-    reads_grow low (low + 1) cells (writes_grow (Local object offset) (low + 1) cells h)
+pub piece_grows : {m n : Made} (g : p.Prog) (low object offset : ℕ) (x : p.Access) → Grows m n → Grows m (put_piece g low object offset x n)
+piece_grows g low object offset (p.Scalar kind) h = grows_write (Local object offset) kind low h
+piece_grows g low object offset (p.Struct count cells) h =
+    groups_grow low (Local object offset) (groups_in (fills_object g object cells) cells) cells h
 
 pub cases_grow : {m n : Made} (low : ℕ) (kind : Kind) (ks : List Case) (otherwise : ℕ) (labels : List ℕ) → Grows m n → Grows m (put_cases low kind ks otherwise labels n)
 cases_grow low kind [] otherwise labels h = grows_start (Jump (label_at labels otherwise)) h
@@ -43,7 +45,7 @@ module _ (g : p.Prog) (first low : ℕ) where
   pub pieces_grow : {m n : Made} (object : ℕ) (ps : List p.Piece) → Grows m n → Grows m (make_pieces g first low object ps n)
   pieces_grow object [] h = h
   pieces_grow object (q ∷ qs) h =
-      grows g first q.value low (low + 1) (piece_grows low object q.offset q.access (pieces_grow object qs h))
+      grows g first q.value low (low + 1) (piece_grows g low object q.offset q.access (pieces_grow object qs h))
 
   pub return_grows : {m n : Made} (e : Option p.Expr) → Grows m n → Grows m (make_return g first low e n)
   return_grows None h = grows_start (Return None) h

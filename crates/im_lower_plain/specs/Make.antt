@@ -12,7 +12,7 @@ use Rattle.im_block.specs.declared.code.Place.{Place}
 use Rattle.im_block.specs.declared.code.Place.TheVariants.{Static, Local, Through}
 use Rattle.im_block.specs.declared.code.Line.TheVariants.{Put, PutNull, Convert, Unary, Not, Compute, Compare, Move, Distance, Address, Call, Serve}
 use Rattle.im_block.specs.declared.code.Exit.TheVariants.{Jump, Branch}
-use Rattle.im_lower_relation.specs.Codes.{further_in, cells_of_shape, offset_in, count_of, is_whole}
+use Rattle.im_lower_relation.specs.Codes.{further_in, cells_of_shape, offset_in, count_of, in_groups}
 use Rattle.im_lower_plain.specs.Made.{Made, put, put_read, put_write, close, start}
 
 -- where a place is: in a named object, or behind the pointer in the register free
@@ -67,7 +67,7 @@ abbrev pub put_groups : ℕ → Place → ℕ → List Cell → Made → Made
 put_groups pointer place zero cells m = put_group pointer place cells m
 put_groups pointer place (suc n) cells m = put_group pointer place (take 8 cells) (put_groups pointer place n (drop 8 cells) m)
 
--- a struct that is a whole object is copied in groups, and another one at once
+-- groups of 8 cells, where a struct is copied in groups; otherwise it is copied at once
 abbrev pub groups_in : Bool → List Cell → ℕ
 groups_in false cells = 0
 groups_in true cells = length cells / 8
@@ -143,7 +143,7 @@ module _ (g : p.Prog) (first : ℕ) where
         make_place a free (make e to (behind a free) (put_write (place_at first a free) kind to m))
     make (p.Assign (p.Struct count cells) a e) to free m =
         make_place a free (make e (behind a free) (behind a free + 1)
-        (put_copy to (behind a free) (place_at first a free) (groups_in (is_whole g first a cells) cells) cells m))
+        (put_copy to (behind a free) (place_at first a free) (groups_in (in_groups g first a cells e) cells) cells m))
     make (p.Update a change e) to free m =
         make_place a free (put_read to (place_at first a free) (changed_kind change)
         (make e (behind a free) (behind a free + 1) (put_change change to to (behind a free) (place_at first a free) m)))

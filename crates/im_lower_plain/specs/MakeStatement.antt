@@ -12,10 +12,11 @@ use Rattle.im_block.specs.declared.unit.Object.{Object}
 use Rattle.im_block.specs.declared.code.Place.TheVariants.{Local}
 use Rattle.im_block.specs.declared.code.Line.TheVariants.{Put, Compare}
 use Rattle.im_block.specs.declared.code.Exit.TheVariants.{Jump, Turn, Branch, Return}
+use Rattle.im_lower_relation.specs.Codes.{fills_object}
 use Rattle.im_lower_relation.specs.Statements.{zero_line, kind_in}
 use Rattle.im_lower_relation.specs.Lowered.{kind_of_one}
 use Rattle.im_lower_plain.specs.Made.{Made, put, put_write, close, start, turn}
-use Rattle.im_lower_plain.specs.Make.{put_reads, put_writes, make, make_test}
+use Rattle.im_lower_plain.specs.Make.{groups_in, put_groups, make, make_test}
 
 -- each of these has the register in which statements put values; the next ones are free
 
@@ -30,10 +31,10 @@ put_rest low object given (c ∷ cs) m =
     if is_among c.offset given then put_rest low object given cs m else put_zero low object c (put_rest low object given cs m)
 
 -- the value of an expression of an initialiser, or the cells behind its address, go into the object
-abbrev pub put_piece : ℕ → ℕ → ℕ → p.Access → Made → Made
-put_piece low object offset (p.Scalar kind) m = put_write (Local object offset) kind low m
-put_piece low object offset (p.Struct count cells) m =
-    put_reads low (low + 1) cells (put_writes (Local object offset) (low + 1) cells m)
+abbrev pub put_piece : p.Prog → ℕ → ℕ → ℕ → p.Access → Made → Made
+put_piece g low object offset (p.Scalar kind) m = put_write (Local object offset) kind low m
+put_piece g low object offset (p.Struct count cells) m =
+    put_groups low (Local object offset) (groups_in (fills_object g object cells) cells) cells m
 
 -- each parameter goes from its register to its object
 abbrev pub put_parameters : ℕ → ℕ → List Object → Made → Made
@@ -71,7 +72,7 @@ make_brace low false m = start (Return None) m
 -- the number of the function's first object in the unit
 module _ (g : p.Prog) (first low : ℕ) where
   abbrev pub make_piece : ℕ → p.Piece → Made → Made
-  make_piece object q m = make g first q.value low (low + 1) (put_piece low object q.offset q.access m)
+  make_piece object q m = make g first q.value low (low + 1) (put_piece g low object q.offset q.access m)
 
   abbrev pub make_pieces : ℕ → List p.Piece → Made → Made
   make_pieces object [] m = m

@@ -1,21 +1,22 @@
 -- A struct is copied in groups of its cells, where those that are still to be read aren't among those that are written.
-use Rattle.std.proofs.Common.{◌≡◌, ◌⊎◌, inl, inr, ℕ, zero, suc, ◌+◌, ◌-◌, ◌<◌, ◌≤◌, ◌==◌, ◌&&◌, max, Bool, true, false, List, [], ◌∷◌, ◌++◌, length, take, drop, refl, sym, ap, ◌∙◌, subst, arith}
+use Rattle.std.proofs.Common.{◌≡◌, ◌⊎◌, inl, inr, ℕ, zero, suc, ◌+◌, ◌-◌, ◌<◌, ◌≤◌, ◌==◌, ◌&&◌, max, Bool, true, false, not, nat_lt, List, [], ◌∷◌, ◌++◌, length, take, drop, refl, sym, ap, ◌∙◌, subst, arith}
 use Rattle.std.specs.Prelude.{Some, slice_get, if◌then◌else◌, sum_by}
-use Rattle.std.proofs.lemmas.Bool.{eqb-true, eqb-false}
+use Rattle.std.proofs.lemmas.Bool.{eqb-true, eqb-false, ltb-false}
 use Rattle.std.proofs.lemmas.List.Sums.{sum_by-cons}
 use Rattle.im_num.specs.declared.kind.Kind.{Kind}
 use Rattle.im_num.specs.Kinds.{kind_size}
 use Rattle.im_ctype.specs.declared.cell.Cell.{Cell}
-use Rattle.im_store.specs.declared.undefined.Undefined.TheVariants.{NoSuchCell}
+use Rattle.im_store.specs.declared.undefined.Undefined.TheVariants.{NoSuchCell, PartialOverlap}
 use Rattle.im_store.specs.Checks.{Fine, Bad, then_}
 use Rattle.im_store.specs.Objects.{Object, Value, Number, Null, Pointer, Unset, Shape, shape_of, kind_at, Store, same_object}
+use Rattle.im_store.specs.Pointers.{overlap_in_part}
 use Rattle.im_store.specs.Access.{has_cell, stands, taken, read_cell, read_cells, write_cell, write_cells, with_value}
-use Rattle.im_store.proofs.Same.{same_object-is, both-true, stands-there}
+use Rattle.im_store.proofs.Same.{same_object-is, same_object-self, both-true, stands-there}
 use Rattle.im_typed.specs.Program.{Prog, Func, LocalObject, Struct}
 use Rattle.im_typed.specs.Programs.{first_object}
 use Rattle.im_typed.specs.Runs as typed
-use Rattle.im_typed.specs.Values.{Values, write_at}
-use Rattle.im_typed.specs.Typing.{Each, AreLaidOut, kinds_of}
+use Rattle.im_typed.specs.Values.{Values, extent, source_for, write_at}
+use Rattle.im_typed.specs.Typing.{Each, AreLaidOut, StandAmong, kinds_of}
 use Rattle.im_typed.specs.Sound.{AreValues}
 use Rattle.im_typed.proofs.Sounds.{then-fine, unless-fine}
 use Rattle.im_typed.proofs.SoundCalls.{by-test, if-true, if-false}
@@ -23,7 +24,7 @@ use Rattle.im_block.specs.declared.code.Place.{Place}
 use Rattle.im_block.specs.declared.unit.Unit.{Unit as Code}
 use Rattle.im_block.specs.Meaning as m
 use Rattle.im_block.specs.Meaning.{Setting, State}
-use Rattle.im_lower_relation.specs.Codes.{Point, writes_of, CodesGroup, CodesGroups, extent, all_objects, fills}
+use Rattle.im_lower_relation.specs.Codes.{Point, writes_of, CodesGroup, CodesGroups, all_objects, fills}
 use Rattle.im_lower_relation.specs.Agrees.{Agrees, Home, Mark, at, Reaches, Does, HasCellsOf}
 use Rattle.im_lower_relation.proofs.Steps.{further, does-later, does-checked}
 use Rattle.im_lower_relation.proofs.Stores.{taken-kept}
@@ -37,6 +38,11 @@ each-dropped : (P : Cell → Type 0) (k : ℕ) (cells : List Cell) → Each P ce
 each-dropped P zero cells h = h
 each-dropped P (suc k) [] h = tt
 each-dropped P (suc k) (c ∷ cs) h = each-dropped P k cs h.1
+
+-- each cell of a struct begins before the end of them
+all-below : (n : ℕ) (cells : List Cell) → extent cells ≤ n → Each {A = Cell} (λ c. c.offset < n) cells
+all-below n [] le = tt
+all-below n (c ∷ cs) le = let some = some-size c.kind in (omega arith, all-below n cs (omega arith))
 
 each-both : (P Q : Cell → Type 0) (cells : List Cell) → Each P cells → Each Q cells → Each (λ c. P c × Q c) cells
 each-both P Q [] h k = tt
@@ -149,32 +155,63 @@ kept-reads store mid o i (c ∷ cs) vs shapes same e =
     ∙ ap (λ r. then_ r (λ xs. Fine (h.first ∷ xs))) (kept-reads store mid o i cs h.rest shapes same.1 h.others)
     ∙ ap (λ (l : Values). Fine l) h.is
 
+-- two places of so many bytes
+abbrev Apart : ℕ → ℕ → ℕ → Type 0
+Apart n i j = (j ≡ i) ⊎ ((i + n ≤ j) ⊎ (j + n ≤ i))
+
 -- where source and target are the same or apart, a later cell of the one isn't an earlier one of the other
-abbrev pub Clear : Object → ℕ → Object → ℕ → Type 0
-Clear o i q j = same_object q o ≡ true → j ≡ i
+abbrev pub Clear : ℕ → Object → ℕ → Object → ℕ → Type 0
+Clear n o i q j = same_object q o ≡ true → Apart n i j
+
+overlap : (a b c d : Bool) → a ≡ true → b ≡ false → c ≡ true → d ≡ true → not (a && not b && c && d) ≡ true → ⊥
+overlap a b c d first second third fourth e =
+    let all : (a && not b && c && d) ≡ true = ap (λ x. x && not b && c && d) first ∙ ap (λ x. not x && c && d) second ∙ ap (λ x. x && d) third ∙ fourth in
+    let none : false ≡ true = ap not (sym all) ∙ e in
+    absurd (cc)
+
+-- a source that doesn't overlap the target in part
+apart-of : (n : ℕ) (o : Object) (i : ℕ) (q : Object) (j : ℕ) → not (overlap_in_part n (Pointer o i) (Pointer q j)) ≡ true → Clear n o i q j
+apart-of n o i q j e = λ same.
+    let object : same_object o q ≡ true = ap (λ x. same_object x q) (sym (same_object-is q o same)) ∙ same_object-self q in
+    by-test {P = Apart n i j} (i == j)
+    (λ t. inl (sym (eqb-true i j t)))
+    (λ apart. by-test {P = Apart n i j} (nat_lt i (j + n))
+    (λ before. by-test {P = Apart n i j} (nat_lt j (i + n))
+    (λ behind. absurd (overlap (same_object o q) (i == j) (nat_lt i (j + n)) (nat_lt j (i + n)) object apart before behind e))
+    (λ behind. inr (inl (ltb-false j (i + n) behind))))
+    (λ before. inr (inr (ltb-false i (j + n) before))))
+
+pub source-clear : (cells : List Cell) (at from there : Value) → source_for cells at from ≡ Fine there
+    → (there ≡ from) × ((o : Object) (i : ℕ) (q : Object) (j : ℕ) → at ≡ Pointer o i → from ≡ Pointer q j → Clear (extent cells) o i q j)
+source-clear cells at from there e =
+    let h = unless-fine (not (overlap_in_part (extent cells) at from)) from there PartialOverlap e in
+    (h.1, λ o i q j target source. apart-of (extent cells) o i q j (ap (λ x. not (overlap_in_part (extent cells) x (Pointer q j))) (sym target) ∙ ap (λ x. not (overlap_in_part (extent cells) at x)) (sym source) ∙ h.0))
 
 -- what is known of all places that the target may be
-clear-at : (k : ℕ) (o : Object) (i : ℕ) (q : Object) (j : ℕ) → ((k ≡ 0) ⊎ ((x : Object) (y : ℕ) → Pointer o i ≡ Pointer x y → Clear x y q j)) → (k ≡ 0) ⊎ Clear o i q j
-clear-at k o i q j (inl none) = inl none
-clear-at k o i q j (inr h) = inr (h o i refl)
+clear-at : (k n : ℕ) (o : Object) (i : ℕ) (q : Object) (j : ℕ) → ((k ≡ 0) ⊎ ((x : Object) (y : ℕ) → Pointer o i ≡ Pointer x y → Clear n x y q j)) → (k ≡ 0) ⊎ Clear n o i q j
+clear-at k n o i q j (inl none) = inl none
+clear-at k n o i q j (inr h) = inr (h o i refl)
 
-missed : (o q : Object) (i j c d : ℕ) → Clear o i q j → c < d → (same_object q o && j + d == i + c) ≡ false
-missed o q i j c d clear lt =
+later-apart : (n i j c d : ℕ) → Apart n i j → c < d → d < n → j + d ≡ i + c → ⊥
+later-apart n i j c d (inl same) lt inside e = omega arith
+later-apart n i j c d (inr (inl behind)) lt inside e = omega arith
+later-apart n i j c d (inr (inr before)) lt inside e = omega arith
+
+missed : (n : ℕ) (o q : Object) (i j c d : ℕ) → Clear n o i q j → c < d → d < n → (same_object q o && j + d == i + c) ≡ false
+missed n o q i j c d clear lt inside =
     by-test {P = (same_object q o && j + d == i + c) ≡ false} (same_object q o && j + d == i + c)
     (λ e. let b = both-true (same_object q o) (j + d == i + c) e in
-    let one = clear b.0 in
-    let two = eqb-true (j + d) (i + c) b.1 in
-    absurd (omega arith))
+    absurd (later-apart n i j c d (clear b.0) lt inside (eqb-true (j + d) (i + c) b.1)))
     (λ e. e)
 
-misses : (o q : Object) (i j : ℕ) (d : Cell) (cells : List Cell) → Clear o i q j → Before cells d → Misses q (j + d.offset) o i cells
-misses o q i j d [] clear h = tt
-misses o q i j d (c ∷ cs) clear h = (missed o q i j c.offset d.offset clear h.0, misses o q i j d cs clear h.1)
+misses : (n : ℕ) (o q : Object) (i j : ℕ) (d : Cell) (cells : List Cell) → Clear n o i q j → Before cells d → d.offset < n → Misses q (j + d.offset) o i cells
+misses n o q i j d [] clear h inside = tt
+misses n o q i j d (c ∷ cs) clear h inside = (missed n o q i j c.offset d.offset clear h.0 inside, misses n o q i j d cs clear h.1 inside)
 
-all-kept : (store mid : Store) (o q : Object) (i j : ℕ) (written cells : List Cell) (vs : Values) → Clear o i q j → Each (Before written) cells → write_cells store o i written vs ≡ Fine mid → Each {A = Cell} (λ c. mid.values q (j + c.offset) ≡ store.values q (j + c.offset)) cells
-all-kept store mid o q i j written [] vs clear h e = tt
-all-kept store mid o q i j written (d ∷ ds) vs clear h e =
-    (untouched store o i q (j + d.offset) written vs mid (misses o q i j d written clear h.0) e, all-kept store mid o q i j written ds vs clear h.1 e)
+all-kept : (n : ℕ) (store mid : Store) (o q : Object) (i j : ℕ) (written cells : List Cell) (vs : Values) → Clear n o i q j → Each (Before written) cells → Each {A = Cell} (λ c. c.offset < n) cells → write_cells store o i written vs ≡ Fine mid → Each {A = Cell} (λ c. mid.values q (j + c.offset) ≡ store.values q (j + c.offset)) cells
+all-kept n store mid o q i j written [] vs clear h inside e = tt
+all-kept n store mid o q i j written (d ∷ ds) vs clear h inside e =
+    (untouched store o i q (j + d.offset) written vs mid (misses n o q i j d written clear h.0 inside.0) e, all-kept n store mid o q i j written ds vs clear h.1 inside.1 e)
 
 -- a struct that is read in an object that it fills begins with it
 
@@ -226,11 +263,28 @@ whole-start store o i size ds cells vs lives laid same e some =
     some-shape a b e = cc
 
 pub whole-clear : (store : Store) (whole : Object) (size : ℕ) (ds cells : List Cell) (vs : Values) (q : Object) (j : ℕ) (o : Object) (i : ℕ) → store.shape whole ≡ Some (shape_of size ds) → AreLaidOut 0 size ds → fills (Some size) cells ≡ true → read_cells store q j cells ≡ Fine vs → 0 < length cells
-    → Pointer o i ≡ Pointer whole 0 → Clear o i q j
+    → Pointer o i ≡ Pointer whole 0 → Clear (extent cells) o i q j
 whole-clear store whole size ds cells vs q j o i lives laid fill e some at_start = λ b.
     let object : o ≡ whole = cc in
     let start : i ≡ 0 = cc in
-    whole-start store q j size ds cells vs (ap store.shape (same_object-is q o b ∙ object) ∙ lives) laid (eqb-true size (extent cells) fill) e some ∙ sym start
+    inl (whole-start store q j size ds cells vs (ap store.shape (same_object-is q o b ∙ object) ∙ lives) laid (eqb-true size (extent cells) fill) e some ∙ sym start)
+
+-- a struct that stands in an object that it fills begins with it
+
+ends-among : (offset size : ℕ) (ds cells : List Cell) → AreLaidOut 0 size ds → offset ≤ size → StandAmong ds offset cells → offset + extent cells ≤ size
+ends-among offset size ds [] laid le among = omega arith
+ends-among offset size ds (c ∷ cs) laid le among =
+    let one = kind-inside 0 size ds (offset + c.offset) c.kind laid among.0 in
+    let rest = ends-among offset size ds cs laid le among.1 in
+    omega arith
+
+pub filled-clear : (store : Store) (whole : Object) (size offset : ℕ) (ds cells : List Cell) (vs : Values) (q : Object) (j : ℕ) (o : Object) (i : ℕ) → store.shape whole ≡ Some (shape_of size ds) → AreLaidOut 0 size ds → offset ≤ size → StandAmong ds offset cells
+    → fills (Some size) cells ≡ true → read_cells store q j cells ≡ Fine vs → 0 < length cells → Pointer whole offset ≡ Pointer o i → Clear (extent cells) o i q j
+filled-clear store whole size offset ds cells vs q j o i lives laid le among fill e some target =
+    let end = ends-among offset size ds cells laid le among in
+    let all = eqb-true size (extent cells) fill in
+    let start : offset ≡ 0 = omega arith in
+    whole-clear store whole size ds cells vs q j o i lives laid fill e some (sym target ∙ ap (Pointer whole) start)
 
 pub in-right : {A B C : Type 0} → (A ⊎ B) → (B → C) → A ⊎ C
 in-right (inl a) h = inl a
@@ -295,20 +349,21 @@ module _ (u : Code) (g : Setting) (p : Prog) (home : Home) (n : Mark) (s : typed
         agrees = put.agrees;
       }
 
-  groups-copied : (begun : ℕ) (values_in : Store) (place : Place) (o : Object) (i : ℕ) (q : Object) (j k from size : ℕ) (cells : List Cell) (vs : Values) (pointer : ℕ) (entry t : Point) (registers : ℕ → Value) (store blocks after : Store)
-      → ((k ≡ 0) ⊎ Clear o i q j) → AreLaidOut from size cells → Designates place o i (pointer + 1) registers store → Agrees store blocks → CodesGroups pointer place k cells entry t → registers pointer ≡ Pointer q j
+  groups-copied : (begun : ℕ) (values_in : Store) (place : Place) (o : Object) (i : ℕ) (q : Object) (j k bytes from size : ℕ) (cells : List Cell) (vs : Values) (pointer : ℕ) (entry t : Point) (registers : ℕ → Value) (store blocks after : Store)
+      → ((k ≡ 0) ⊎ Clear bytes o i q j) → Each {A = Cell} (λ c. c.offset < bytes) cells → AreLaidOut from size cells → Designates place o i (pointer + 1) registers store → Agrees store blocks → CodesGroups pointer place k cells entry t → registers pointer ≡ Pointer q j
       → read_cells store q j cells ≡ Fine vs → AreValues begun values_in (kinds_of cells) vs → write_cells store o i cells vs ≡ Fine after → WereCopied (at home n entry registers blocks s) t (pointer + 1) registers after
-  groups-copied begun values_in place o i q j zero from size cells vs pointer entry t registers store blocks after clear laid designates agrees codes has e fits w =
+  groups-copied begun values_in place o i q j zero bytes from size cells vs pointer entry t registers store blocks after clear inside laid designates agrees codes has e fits w =
       group-copied begun values_in place o i q j cells vs pointer entry t registers store blocks after designates agrees codes has e fits w
-  groups-copied begun values_in place o i q j (suc k) from size cells vs pointer entry t registers store blocks after (inl none) laid designates agrees codes has e fits w = absurd (omega (arith, none))
-  groups-copied begun values_in place o i q j (suc k) from size cells vs pointer entry t registers store blocks after (inr clear) laid designates agrees codes has e fits w =
+  groups-copied begun values_in place o i q j (suc k) bytes from size cells vs pointer entry t registers store blocks after (inl none) inside laid designates agrees codes has e fits w = absurd (omega (arith, none))
+  groups-copied begun values_in place o i q j (suc k) bytes from size cells vs pointer entry t registers store blocks after (inr clear) inside laid designates agrees codes has e fits w =
       let parts = write-split 8 store o i cells vs after w in
       let mid : Store = parts.mid in
       let shapes : (x : Object) → mid.shape x ≡ store.shape x = writes-shape store o i (take 8 cells) (take 8 vs) mid parts.first in
       let one = group-copied begun values_in place o i q j (take 8 cells) (take 8 vs) pointer entry codes.0 registers store blocks mid designates agrees codes.1 has (first-cells 8 store q j cells vs e) (values-first 8 begun values_in cells vs fits) parts.first in
-      let still = kept-reads store mid q j (drop 8 cells) (drop 8 vs) shapes (all-kept store mid o q i j (take 8 cells) (drop 8 cells) (take 8 vs) clear (split-ordered 8 from size cells laid) parts.first) (dropped-cells store q j 8 cells vs e) in
+      let rest_inside = each-dropped (λ c. c.offset < bytes) 8 cells inside in
+      let still = kept-reads store mid q j (drop 8 cells) (drop 8 vs) shapes (all-kept bytes store mid o q i j (take 8 cells) (drop 8 cells) (take 8 vs) clear (split-ordered 8 from size cells laid) rest_inside parts.first) (dropped-cells store q j 8 cells vs e) in
       let rest_laid = laid-dropped 8 from size cells laid in
-      let rest = groups-copied begun values_in place o i q j k rest_laid.0 size (drop 8 cells) (drop 8 vs) pointer codes.0 t one.registers mid one.left after (inr clear) rest_laid.1
+      let rest = groups-copied begun values_in place o i q j k bytes rest_laid.0 size (drop 8 cells) (drop 8 vs) pointer codes.0 t one.registers mid one.left after (inr clear) rest_inside rest_laid.1
       (λ later left rs same kept ag. designates later left rs (λ x. same x ∙ shapes x) (λ r l. kept r l ∙ one.kept r l) ag)
       one.agrees codes.2 (one.kept pointer (omega arith) ∙ has) still (values-left 8 begun values_in cells vs fits) parts.others in
       record {
@@ -323,12 +378,12 @@ module _ (u : Code) (g : Setting) (p : Prog) (home : Home) (n : Mark) (s : typed
   pub copy-groups : (v : Value) (place : Place) (count size k : ℕ) (cells : List Cell) (vs : Values) (pointer : ℕ) (entry next : Point) (registers : ℕ → Value) (blocks : Store)
       → ((mid left : Store) (rs : ℕ → Value) → ((q : Object) → mid.shape q ≡ s.world.store.shape q) → ((q : ℕ) → q < pointer + 1 → rs q ≡ registers q) → Agrees mid left → m.place_of place home.active rs left ≡ Fine v)
       → Agrees s.world.store blocks → AreLaidOut 0 size cells → CodesGroups pointer place k cells entry next → (holds : HasCellsOf cells vs s.world.store (registers pointer)) → AreValues s.world.activations s.world.store (kinds_of cells) vs
-      → ((k ≡ 0) ⊎ ((o : Object) (i : ℕ) → v ≡ Pointer o i → Clear o i holds.0 holds.1))
+      → ((k ≡ 0) ⊎ ((o : Object) (i : ℕ) → v ≡ Pointer o i → Clear (extent cells) o i holds.0 holds.1))
       → Does u g p home next (at home n entry registers blocks s) (Copied u g p home n s (pointer + 1) registers v cells vs) (write_at (Struct count cells) v vs s)
   copy-groups (Pointer o i) place count size k cells vs pointer entry next registers blocks designates agrees laid codes holds fits clear =
       does-checked u g p home (write_cells s.world.store o i cells vs) s _ (λ after e.
-      let here = clear-at k o i holds.0 holds.1 clear in
-      let done = groups-copied s.world.activations s.world.store place o i holds.0 holds.1 k 0 size cells vs pointer entry next registers s.world.store blocks after here laid designates agrees codes holds.2 holds.3 fits e in
+      let here = clear-at k (extent cells) o i holds.0 holds.1 clear in
+      let done = groups-copied s.world.activations s.world.store place o i holds.0 holds.1 k (extent cells) 0 size cells vs pointer entry next registers s.world.store blocks after here (all-below (extent cells) cells (omega arith)) laid designates agrees codes holds.2 holds.3 fits e in
       let t : typed.State = record { world = record s.world { store = after }; fuel = s.fuel } in
       does-later u g p home {c = at home n next done.registers done.left t} done.leads
       (stands_there u g p home (λ _. next) n done.registers done.left t vs (record {

@@ -1,18 +1,22 @@
 -- What holds all along the run of a body, and what is known of the calls in it.
 use Rattle.std.proofs.Common.{◌≡◌, ℕ, suc, ◌+◌, ◌-◌, ◌<◌, ◌≤◌, List, [], ◌∷◌, length, ◌∙◌, arith}
 use Rattle.std.specs.Prelude.{Option, Some, slice_get}
+use Rattle.im_ctype.specs.declared.cell.Cell.{Cell}
 use Rattle.im_store.specs.Objects.{Value, Store}
 use Rattle.im_store.specs.Statics.{StaticObject}
 use Rattle.im_num.specs.declared.kind.Kind.TheVariants.{Ptr}
-use Rattle.im_typed.specs.Program.{Access, Place, Expr, Exprs, LocalObject, Func, Prog}
+use Rattle.im_typed.specs.Program.{Access, Struct, Place, Expr, Read, Exprs, LocalObject, Func, Prog}
 use Rattle.im_typed.specs.Runs.{World, Answer}
 use Rattle.im_typed.specs.Runs as typed
-use Rattle.im_typed.specs.Meaning.{Around, Calls, place_of, value_of, values_of}
+use Rattle.im_typed.specs.Values.{source_for}
+use Rattle.im_typed.specs.Meaning.{Around, Calls, place_of, value_of, is_read, stored, source_of, values_of}
 use Rattle.im_typed.specs.Typing.{AreLaidOut, parameters, shape_of, IsTypedPlace, IsTyped, AreArguments}
 use Rattle.im_typed.specs.Sound.{IsValue, IsSoundWorld, IsHere, KeepsWorld, Fits, ArgumentsFit}
-use Rattle.im_typed.proofs.Sounds.{here-kept}
+use Rattle.im_typed.proofs.Sounds.{here-kept, right-bind, right-checked}
+use Rattle.im_typed.proofs.SoundCells.{right-read}
 use Rattle.im_typed.proofs.SoundExprs.{RightAround, at-shape, right-place, right-value, right-values}
-use Rattle.im_typed.proofs.Parts.{RelatedOperates}
+use Rattle.im_typed.proofs.Related.{rel-bind, rel-checked}
+use Rattle.im_typed.proofs.Parts.{RelatedOperates, rel-read_at}
 use Rattle.im_typed.proofs.Induction.{RelatedCalls, rel-place, rel-value, rel-values}
 use Rattle.im_block.specs.declared.code.Line.TheVariants.{Call}
 use Rattle.im_block.specs.declared.unit.Registers.TheVariants.{Virtual}
@@ -94,3 +98,15 @@ module _ (p : Prog) (f : Func) (c : Around) (bound : ℕ) where
       right = right-place p f c inside a s t r.sane r.here;
       spends = (rel-place 0 0 c.activation c.depth c.first c.capacity c.calls c.calls c.operates c.operates tame.calls tame.operates a).tame.by s;
     }
+
+    -- what a struct's assignment stores
+    pub right-stored : {store : Store} (count : ℕ) (cells : List Cell) (at : Value) (e : Expr) (s : typed.State) → shape_of p e ≡ Some (Struct count cells) → IsTyped p f e → Ready p f c bound s store
+        → Right p.statics s (Fits (Some (Struct count cells))) (stored (Struct count cells) at (is_read e) (value_of c e) (source_of c e) s)
+    right-stored count cells at (Read x a) s same t r = record {
+      right = right-bind p.statics (right-place p f c inside a s t.1 r.sane r.here) (λ from u sane kept h.
+          right-bind p.statics (right-checked p.statics (λ w v. Unit {0}) u (source_for cells at from) sane (λ v e. tt)) (λ there v sane₁ kept₁ _.
+          right-read p.statics (Struct count cells) there v sane₁));
+      spends = (rel-bind (rel-place 0 0 c.activation c.depth c.first c.capacity c.calls c.calls c.operates c.operates tame.calls tame.operates a)
+          (λ from. rel-bind (rel-checked (source_for cells at from)) (λ there. rel-read_at (Struct count cells) there))).tame.by s;
+    }
+    right-stored count cells at e s same t r = right-at e s same t r

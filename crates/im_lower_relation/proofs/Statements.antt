@@ -32,7 +32,7 @@ use Rattle.im_block.specs.declared.unit.Function.{Function}
 use Rattle.im_block.specs.declared.unit.Unit.{Unit as Code}
 use Rattle.im_block.specs.Meaning as m
 use Rattle.im_block.specs.Meaning.{Setting, Frame, State}
-use Rattle.im_lower_relation.specs.Codes.{Point, before, ends, Begins, reads_of, writes_of, Codes, CodesTest}
+use Rattle.im_lower_relation.specs.Codes.{Point, before, ends, Begins, object_size, fills, Codes, CodesTest}
 use Rattle.im_lower_relation.specs.Statements.{start_at, kind_in, Passes, CodesCases, CodesPiece, CodesPieces, CodesRest, CodesStatement, CodesStatements}
 use Rattle.im_lower_relation.specs.Agrees.{Agrees, Home, Mark, moved, at, Follows, Does, HasOne, CameAs}
 use Rattle.im_lower_relation.proofs.Steps.{Right, does-later, does-bind, does-checked, joined, does-weaker}
@@ -40,7 +40,8 @@ use Rattle.im_lower_relation.proofs.Uses.{does-jump, does-arm, does-turn, stands
 use Rattle.im_lower_relation.proofs.Operands.{integer-shape, scalar-shape}
 use Rattle.im_lower_relation.proofs.Cells.{write-line}
 use Rattle.im_lower_relation.proofs.Ready.{Ready, Works, ready-known, ready-took, right-of, right-at}
-use Rattle.im_lower_relation.proofs.Structs.{copy-lines, if-used}
+use Rattle.im_lower_relation.proofs.Structs.{if-used}
+use Rattle.im_lower_relation.proofs.Groups.{filled-clear, in-right, copy-groups}
 use Rattle.im_lower_relation.proofs.Values.{home, used-as, as-shape, lowered, tested, decided as choose}
 use Rattle.im_lower_relation.proofs.Flows.{end_of, Left, flow-arm, followed, turned, switched}
 use Rattle.im_lower_relation.proofs.Cases.{cases-lead, forgotten-agrees}
@@ -184,20 +185,22 @@ module _ (u : Code) (g : Setting) (p : q.Prog) (f : q.Func) (c : Around) (bound 
       let inside = among-inside o.cells offset o.size cells (omega arith) among laid in
       does-bind u g p h
       (joined u g p h (right-as e s shape typed_one ready)
-      (as-shape u g p f c bound works k callers fn is virtual shape (value e entry (reads_of low (low + 1) cells codes.0 (writes_of place (low + 1) cells codes.1 t)) typed_one codes.4 n registers store s ready)))
+      (as-shape u g p f c bound works k callers fn is virtual shape (value e entry codes.0 typed_one codes.3 n registers store s ready)))
       (λ vs v n₁ after left k.
       let one = ready-known p f c bound ready k.0 k.1.agrees in
       if-used vs v (write_at (q.Struct count cells) (Pointer (local c x) offset) vs >>= then)
-      (λ r. Follows u g p h next (at h n₁ (reads_of low (low + 1) cells codes.0 (writes_of place (low + 1) cells codes.1 t)) after left v) P r) (λ why. record { by = tt })
+      (λ r. Follows u g p h next (at h n₁ codes.0 after left v) P r) (λ why. record { by = tt })
       (does-bind u g p h
       (joined u g p h
       (record {
         right = right-write p.statics (q.Struct count cells) (Pointer (local c x) offset) vs v one.sane k.0.fits;
         spends = (rel-write_at {k = 0} {b = 0} (q.Struct count cells) (Pointer (local c x) offset) vs).tame.by v;
       })
-      (copy-lines u g p h n₁ v (Pointer (local c x) offset) place count 1048576 cells codes.0 codes.1 vs low (low + 1) t after left
+      (copy-groups u g p h n₁ v (Pointer (local c x) offset) place count 1048576 codes.1 cells vs low codes.0 t after left
       (λ mid lf rs same kept ag. local-place lf (local c x) (object_shape o.size o.cells) offset (ag.shapes (local c x) (object_shape o.size o.cells) (same (local c x) ∙ one.here.live x o found)) inside)
-      one.agrees access.2 codes.2 codes.3 (omega arith) k.1.has k.0.fits))
+      one.agrees access.2 codes.4 k.1.has k.0.fits
+      (in-right codes.2 (λ fill y i target. filled-clear v.world.store (local c x) o.size offset o.cells cells vs k.1.has.0 k.1.has.1 y i (one.here.live x o found) laid inside among
+      (ap (λ r. fills (object_size r) cells) (sym (one.numbered x o found)) ∙ fill) k.1.has.3 (omega arith) target))))
       (λ ws y i rs left₂ z. go ws y i rs left₂ (ready-known p f c bound one z.0 z.1.agrees))))
 
   -- an initialiser's expressions

@@ -15,7 +15,7 @@ use Rattle.im_store.proofs.Same.{same_object-self}
 use Rattle.im_typed.specs.Program.{Prog, Access, Scalar, Struct}
 use Rattle.im_typed.specs.Runs.{Answer, Run, Stops, Fails, checked}
 use Rattle.im_typed.specs.Runs as typed
-use Rattle.im_typed.specs.Values.{Values, used, read_at, write_at}
+use Rattle.im_typed.specs.Values.{Values, used, read_at}
 use Rattle.im_typed.specs.Typing.{Each, AreLaidOut, InPlace, IsPart, kinds_of}
 use Rattle.im_typed.specs.Sound.{AreValues}
 use Rattle.im_typed.proofs.Sounds.{then-fine, unless-fine}
@@ -28,9 +28,9 @@ use Rattle.im_block.specs.Meaning as m
 use Rattle.im_block.specs.Meaning.{Setting, State, with_register}
 use Rattle.im_lower_relation.specs.Codes.{Point, before, further_in, reads_of, writes_of}
 use Rattle.im_lower_relation.specs.Agrees.{Agrees, Home, Mark, at, Reaches, Does, HasCellsOf, Came, CameAs}
-use Rattle.im_lower_relation.proofs.Steps.{here, stepped, further, does-later, does-checked}
+use Rattle.im_lower_relation.proofs.Steps.{here, stepped, further, does-later}
 use Rattle.im_lower_relation.proofs.Stores.{agree-read, agree-write, taken-kept}
-use Rattle.im_lower_relation.proofs.Uses.{taken-same, register-same, register-other, line-goes, checks, arrived, stands as stands_there}
+use Rattle.im_lower_relation.proofs.Uses.{taken-same, register-same, register-other, line-goes, checks, arrived}
 use Rattle.im_lower_relation.proofs.Operands.{stored-same}
 use Rattle.im_lower_relation.proofs.Places.{further-none, further-in}
 use Rattle.im_lower_relation.proofs.Layouts.{some-size, cells-from}
@@ -268,41 +268,22 @@ module _ (u : Code) (g : Setting) (p : Prog) (home : Home) (n : Mark) (s : typed
     pub shapes : (q : Object) → t.world.store.shape q ≡ s.world.store.shape q
     pub has : HasCellsOf cells vs t.world.store v
 
-  pub copy-lines : (v : Value) (place : Place) (count size : ℕ) (cells : List Cell) (ns ks : List ℕ) (vs : Values) (pointer from : ℕ) (next : Point) (registers : ℕ → Value) (blocks : Store)
-      → ((mid left : Store) (rs : ℕ → Value) → ((q : Object) → mid.shape q ≡ s.world.store.shape q) → ((q : ℕ) → q < from → rs q ≡ registers q) → Agrees mid left → m.place_of place home.active rs left ≡ Fine v)
-      → Agrees s.world.store blocks → AreLaidOut 0 size cells → length ns ≡ length cells → length ks ≡ length cells → pointer < from → HasCellsOf cells vs s.world.store (registers pointer) → AreValues s.world.activations s.world.store (kinds_of cells) vs
-      → Does u g p home next (at home n (reads_of pointer from cells ns (writes_of place from cells ks next)) registers blocks s) (Copied from registers v cells vs) (write_at (Struct count cells) v vs s)
-  copy-lines (Pointer o offset) place count size cells ns ks vs pointer from next registers blocks designates agrees laid many_reads many_writes lt holds fits =
-      does-checked u g p home (write_cells s.world.store o offset cells vs) s _ (λ after e.
-      let got = reads s.world.store blocks agrees holds.0 holds.1 cells vs ns pointer from (writes_of place from cells ks next) registers many_reads lt holds.2 holds.3 in
-      let put = writes s.world.activations s.world.store place o offset got.registers cells vs ks from next s.world.store blocks after
-      (λ mid left same ag. designates mid left got.registers same got.kept ag) agrees many_writes got.has fits e in
-      let t : typed.State = record { world = record s.world { store = after }; fuel = s.fuel } in
-      does-later u g p home {c = at home n next got.registers put.left t} (further u g got.leads put.leads)
-      (stands_there u g p home (λ _. next) n got.registers put.left t vs (record {
-        same = refl;
-        agrees = put.agrees;
-        kept = got.kept;
-        shapes = writes-shape s.world.store o offset cells vs after e;
-        has = (o, offset, refl, read-back s.world.store o offset 0 size cells vs after laid (all-read s.world.store holds.0 holds.1 cells vs holds.3) (all-taken s.world.store holds.0 holds.1 cells vs holds.3) e);
-      })))
-  copy-lines (Number z) place count size cells ns ks vs pointer from next registers blocks designates agrees laid many_reads many_writes lt holds fits = record { by = tt }
-  copy-lines Null place count size cells ns ks vs pointer from next registers blocks designates agrees laid many_reads many_writes lt holds fits = record { by = tt }
-  copy-lines Unset place count size cells ns ks vs pointer from next registers blocks designates agrees laid many_reads many_writes lt holds fits = record { by = tt }
-
 module _ (u : Code) (g : Setting) (p : Prog) (home : Home) where
   -- a struct's value is its address
   pub struct-line : (v : Value) (place : Place) (count : ℕ) (cells : List Cell) (to free : ℕ) (n : Mark) (next : Point) (base registers : ℕ → Value) (store : Store) (s : typed.State) → m.place_of place home.active registers store ≡ Fine v → Agrees s.world.store store
       → ((x : ℕ) → x < free → (x ≡ to → ⊥) → registers x ≡ base x)
-      → Does u g p home next (at home n (before (Address to place) next) registers store s) (CameAs (Some (Struct count cells)) base to free) (read_at (Struct count cells) v s)
+      → Does u g p home next (at home n (before (Address to place) next) registers store s) (λ vs t after left. CameAs (Some (Struct count cells)) base to free vs t after left × (after to ≡ v)) (read_at (Struct count cells) v s)
   struct-line (Pointer o offset) place count cells to free n next base registers store s is agrees kept =
       does-later u g p home (line-goes u g p home (Address to place) next n registers store s to (m.place_of place home.active registers store) (Pointer o offset) refl is)
       (checks u g p home next n (with_register registers to (Pointer o offset)) store s (read_cells s.world.store o offset cells)
-      (λ vs e. record {
-        agrees = agrees;
-        kept = λ q l ne. register-other registers to q (Pointer o offset) ne ∙ kept q l ne;
-        has = (o, offset, register-same registers to (Pointer o offset), e);
-      }))
+      (λ vs e. (
+        record {
+          agrees = agrees;
+          kept = λ q l ne. register-other registers to q (Pointer o offset) ne ∙ kept q l ne;
+          has = (o, offset, register-same registers to (Pointer o offset), e);
+        },
+        register-same registers to (Pointer o offset),
+      )))
   struct-line (Number z) place count cells to free n next base registers store s is agrees kept = record { by = tt }
   struct-line Null place count cells to free n next base registers store s is agrees kept = record { by = tt }
   struct-line Unset place count cells to free n next base registers store s is agrees kept = record { by = tt }

@@ -1,5 +1,5 @@
 -- Block code of an expression gives the expression's value.
-use Rattle.std.proofs.Common.{◌≡◌, ℕ, suc, ◌+◌, ◌<◌, ◌≤◌, List, [], ◌∷◌, length, take, drop, Bool, true, false, refl, sym, ap, ◌∙◌, subst, arith}
+use Rattle.std.proofs.Common.{◌≡◌, ℕ, suc, ◌+◌, ◌<◌, ◌≤◌, List, [], ◌∷◌, length, take, drop, Bool, true, false, ◌||◌, refl, sym, ap, ◌∙◌, subst, arith}
 use Rattle.std.specs.Prelude.{Option, Some, None, ℤ, pos, not, if◌then◌else◌, slice_get}
 use Rattle.std.specs.Option.{option_map}
 use Rattle.im_num.specs.declared.kind.Kind.{Kind}
@@ -16,11 +16,12 @@ use Rattle.im_typed.specs.declared.expression.Change.TheVariants.{Number as Numb
 use Rattle.im_typed.specs.Program as q
 use Rattle.im_typed.specs.Runs.{World, Answer, Gives, Stops, Run, checked, either}
 use Rattle.im_typed.specs.Runs as typed
-use Rattle.im_typed.specs.Values.{Values, used, write_at, truth}
-use Rattle.im_typed.specs.Meaning.{Around, local, place_of, value_of, values_of}
+use Rattle.im_typed.specs.Values.{Values, used, extent, source_for, read_at, write_at, truth}
+use Rattle.im_typed.specs.Meaning.{Around, local, place_of, value_of, is_read, stored, source_of, values_of}
 use Rattle.im_typed.specs.Typing.{InPlace, IsPart, IsScalarShape, shape_of, result_shape, IsTypedPlace, IsTyped, AreArguments, parameters}
 use Rattle.im_typed.specs.Sound.{IsValue, Fits}
 use Rattle.im_typed.proofs.Sounds.{value-kept}
+use Rattle.im_typed.proofs.SoundCalls.{by-test}
 use Rattle.im_typed.proofs.SoundExprs.{takes-kind, there}
 use Rattle.im_block.specs.declared.code.Place.TheVariants.{Through}
 use Rattle.im_block.specs.declared.code.Line.TheVariants.{PutNull, Address, Move, Distance, Put, Convert, Unary, Not, Compute, Compare, Read, Write, Call, Serve}
@@ -31,9 +32,9 @@ use Rattle.im_block.specs.declared.unit.Function.{Function}
 use Rattle.im_block.specs.declared.unit.Unit.{Unit as Code}
 use Rattle.im_block.specs.Meaning as m
 use Rattle.im_block.specs.Meaning.{Setting, Frame, State, with_register, condition}
-use Rattle.im_lower_relation.specs.Codes.{Point, before, ends, Begins, above, count_of, cells_of_shape, offset_in, where_of, CodesPlace, Codes, CodesArguments, static_size, object_size, fills, is_whole, CodesTestBy, CodesTest}
+use Rattle.im_lower_relation.specs.Codes.{Point, before, ends, Begins, above, count_of, cells_of_shape, offset_in, where_of, CodesPlace, Codes, CodesArguments, static_size, object_size, fills, is_whole, in_groups, CodesTestBy, CodesTest}
 use Rattle.im_lower_relation.specs.Agrees.{Agrees, Home, Mark, moved, at, Follows, Does, HasOne, HasCellsOf, Holds, Came, CameAs}
-use Rattle.im_lower_relation.proofs.Groups.{Clear, whole-clear, in-right, copy-groups}
+use Rattle.im_lower_relation.proofs.Groups.{Clear, source-clear, whole-clear, in-right, copy-groups}
 use Rattle.im_lower_relation.proofs.Structs.{struct-line, part-line, part-cell, part-cells, struct-place, part-shape, if-used}
 use Rattle.im_lower_relation.proofs.Steps.{Right, does-later, does-whole, does-bind, does-checked, does-weaker, joined}
 use Rattle.im_lower_relation.proofs.Stores.{agree-moved, agree-pointer, taken-kept}
@@ -41,7 +42,7 @@ use Rattle.im_lower_relation.proofs.Uses.{register-same, register-other, number-
 use Rattle.im_lower_relation.proofs.Operands.{converted-same, computed-same, compared-values, moved-same, distance-same, negated, integer-shape, scalar-shape, right-kind, right-same, one-of_kind}
 use Rattle.im_lower_relation.proofs.Places.{above-more, IsPlaceAt, Stood, place-kept, designates}
 use Rattle.im_lower_relation.proofs.Cells.{read-line, right-reading, assigned, change-lines, move-lines}
-use Rattle.im_lower_relation.proofs.Ready.{HasArguments, Ready, Works, ready-known, ready-took, right-of, right-at, right-placed, right-arguments}
+use Rattle.im_lower_relation.proofs.Ready.{HasArguments, Ready, Works, ready-known, ready-took, right-of, right-at, right-placed, right-stored, right-arguments}
 use Rattle.im_serve.specs.Services.{row}
 use Rattle.im_serve.proofs.Rows.{law_of}
 use Rattle.im_typed.proofs.SoundExprs.{given-kind}
@@ -97,7 +98,7 @@ module _ (u : Code) (g : Setting) (p : q.Prog) (f : q.Func) (c : Around) (bound 
 
   -- a struct that overlaps a whole object, where it is read, is this object
   whole-apart : (a : q.Place) (free : ℕ) (cells : List Cell) (vs : Values) (v w : Value) (x : typed.State) (left store : Store) (registers : ℕ → Value) → IsTypedPlace p f a → IsPlaceAt c a free v store registers → Ready p f c bound x left
-      → is_whole p c.first a cells ≡ true → 0 < length cells → (has : HasCellsOf cells vs x.world.store w) → (o : Object) (i : ℕ) → v ≡ Pointer o i → Clear o i has.0 has.1
+      → is_whole p c.first a cells ≡ true → 0 < length cells → (has : HasCellsOf cells vs x.world.store w) → (o : Object) (i : ℕ) → v ≡ Pointer o i → Clear (extent cells) o i has.0 has.1
   whole-apart (q.Static n) free cells vs v w x left store registers t is ready whole some has o i e =
       let found = there p.statics n t in
       whole-clear x.world.store (static n) found.0.size found.0.cells cells vs has.0 has.1 o i (ready.sane.store.live n found.0 found.1) (ready.statics n found.0 found.1)
@@ -108,6 +109,19 @@ module _ (u : Code) (g : Setting) (p : q.Prog) (f : q.Func) (c : Around) (bound 
       (ap (λ r. fills (object_size r) cells) (sym (ready.numbered n found.0 found.1)) ∙ whole) has.3 some (sym e ∙ is)
   whole-apart (q.Target e₁) free cells vs v w x left store registers t is ready whole some has o i e = absurd (cc)
   whole-apart (q.Member a d) free cells vs v w x left store registers t is ready whole some has o i e = absurd (cc)
+
+  groups-apart : (a : q.Place) (e : q.Expr) (free : ℕ) (cells : List Cell) (vs : Values) (v w : Value) (x : typed.State) (left store : Store) (registers : ℕ → Value) → IsTypedPlace p f a → IsPlaceAt c a free v store registers → Ready p f c bound x left
+      → in_groups p c.first a cells e ≡ true → 0 < length cells → (has : HasCellsOf cells vs x.world.store w) → (is_read e ≡ true → (o : Object) (i : ℕ) → v ≡ Pointer o i → Clear (extent cells) o i has.0 has.1)
+      → (o : Object) (i : ℕ) → v ≡ Pointer o i → Clear (extent cells) o i has.0 has.1
+  groups-apart a e free cells vs v w x left store registers t is ready groups some has read =
+      by-test {P = (o : Object) (i : ℕ) → v ≡ Pointer o i → Clear (extent cells) o i has.0 has.1} (is_whole p c.first a cells)
+      (λ whole. whole-apart a free cells vs v w x left store registers t is ready whole some has)
+      (λ part. read (sym (ap (λ b. b || is_read e) part) ∙ groups))
+
+  -- behind the value of a struct's assignment: the register has the address of what is stored, and what is read is apart from the target
+  record Sourced (count : ℕ) (cells : List Cell) (v : Value) (read : Bool) (registers : ℕ → Value) (to free : ℕ) (vs : Values) (t : typed.State) (after : ℕ → Value) (left : Store) : Type 0 where
+    came : CameAs (Some (q.Struct count cells)) registers to free vs t after left
+    clear : read ≡ true → (o : Object) (i : ℕ) → v ≡ Pointer o i → Clear (extent cells) o i came.has.0 came.has.1
 
   -- the values of an expression
   abbrev Gains : q.Expr → (to free : ℕ) → (entry next : Point) → Type 0
@@ -290,7 +304,8 @@ module _ (u : Code) (g : Setting) (p : q.Prog) (f : q.Func) (c : Around) (bound 
         let place = where_of p c.first blocks a free in
         does-bind u g p home (placed a free entry (before (Address to place) next) t.1 codes n registers store s ready)
         (λ v w n₁ after left stood.
-        struct-line u g p home v place count cells to free n₁ next registers after left w (designates c p blocks a free v w.world.store left after stood.agrees stood.is) stood.agrees (λ x l ne. stood.kept x l))
+        does-weaker u g p home (λ vs x last other k. k.0)
+        (struct-line u g p home v place count cells to free n₁ next registers after left w (designates c p blocks a free v w.world.store left after stood.agrees stood.is) stood.agrees (λ x l ne. stood.kept x l)))
     lowered (q.Convert kind e) to free entry next lt t codes n registers store s ready =
         let i = integer-shape (shape_of p e) t.2 in
         does-number u g p home i.2
@@ -404,23 +419,23 @@ module _ (u : Code) (g : Setting) (p : q.Prog) (f : q.Func) (c : Around) (bound 
         (joined u g p home (right-placed p f c bound works.right works.tame a s t.1 ready) (placed a free entry codes.0 t.1 codes.4 n registers store s ready))
         (λ v w n₁ after left stood.
         does-bind u g p home
-        (joined u g p home (right-as e w t.3 t.2 (ready-known p f c bound ready stood.0 stood.1.agrees))
-        (as-shape t.3 (lowered e top (top + 1) codes.0 codes.1 (omega arith) t.2 codes.5 n₁ after left w (ready-known p f c bound ready stood.0 stood.1.agrees))))
+        (joined u g p home (right-stored p f c bound works.right works.tame count cells v e w t.3 t.2 (ready-known p f c bound ready stood.0 stood.1.agrees))
+        (sourced e (λ to free entry next lt codes. lowered e to free entry next lt t.2 codes) count cells v top codes.0 codes.1 t.2 t.3 codes.5 n₁ after left w (ready-known p f c bound ready stood.0 stood.1.agrees)))
         (λ vs x n₂ after₂ left₂ k.
         if-used vs x (write_at (q.Struct count cells) v vs)
         (λ r. Does u g p home next (at home n₂ codes.1 after₂ left₂ x) (CameAs (Some (q.Struct count cells)) registers to free) r) (λ why. record { by = tt })
         (does-whole u g p home
         (does-bind u g p home
         (copy-groups u g p home n₂ x v place count 1048576 codes.2 cells vs top codes.1 last after₂ left₂
-        (λ mid lf rs same kept ag. designates c p blocks a free v mid lf rs ag (place-kept c a free v w.world.store mid after rs (λ o. same o ∙ k.0.keeps.same o) (λ i ge l. kept i (omega arith) ∙ k.1.kept i (omega arith) (λ e. omega arith)) stood.1.is))
-        k.1.agrees t.0.2 codes.6 k.1.has k.0.fits
-        (in-right codes.3 (λ whole. whole-apart a free cells vs v (after₂ top) x left₂ w.world.store after t.1 stood.1.is (ready-known p f c bound (ready-known p f c bound ready stood.0 stood.1.agrees) k.0 k.1.agrees) whole (let counted = t.0.0 in let some = t.0.1 in omega arith) k.1.has)))
+        (λ mid lf rs same kept ag. designates c p blocks a free v mid lf rs ag (place-kept c a free v w.world.store mid after rs (λ o. same o ∙ k.0.keeps.same o) (λ i ge l. kept i (omega arith) ∙ k.1.came.kept i (omega arith) (λ e. omega arith)) stood.1.is))
+        k.1.came.agrees t.0.2 codes.6 k.1.came.has k.0.fits
+        (in-right codes.3 (λ groups. groups-apart a e free cells vs v (after₂ top) x left₂ w.world.store after t.1 stood.1.is (ready-known p f c bound (ready-known p f c bound ready stood.0 stood.1.agrees) k.0 k.1.came.agrees) groups (let counted = t.0.0 in let some = t.0.1 in omega arith) k.1.came.has k.1.clear)))
         (λ ws y n₃ after₃ left₃ copied.
         does-line u g p home (Address to place) next n₃ after₃ left₃ y to (m.place_of place home.active after₃ left₃) v refl
-        (designates c p blocks a free v y.world.store left₃ after₃ copied.agrees (place-kept c a free v w.world.store y.world.store after after₃ (λ o. copied.shapes o ∙ k.0.keeps.same o) (λ i ge l. copied.kept i (omega arith) ∙ k.1.kept i (omega arith) (λ e. omega arith)) stood.1.is))
+        (designates c p blocks a free v y.world.store left₃ after₃ copied.agrees (place-kept c a free v w.world.store y.world.store after after₃ (λ o. copied.shapes o ∙ k.0.keeps.same o) (λ i ge l. copied.kept i (omega arith) ∙ k.1.came.kept i (omega arith) (λ e. omega arith)) stood.1.is))
         (stands u g p home (λ _. next) n₃ (with_register after₃ to v) left₃ y ws (record {
           agrees = copied.agrees;
-          kept = λ q l ne. register-other after₃ to q v ne ∙ copied.kept q (omega arith) ∙ k.1.kept q (omega arith) (λ e. omega arith) ∙ stood.1.kept q l;
+          kept = λ q l ne. register-other after₃ to q v ne ∙ copied.kept q (omega arith) ∙ k.1.came.kept q (omega arith) (λ e. omega arith) ∙ stood.1.kept q l;
           has = (copied.has.0, copied.has.1, register-same after₃ to v ∙ copied.has.2, copied.has.3);
         })))))))
     lowered (q.Update a (NumberBy kind op at_kind) e) to free entry next lt t codes n registers store s ready =
@@ -668,6 +683,24 @@ module _ (u : Code) (g : Setting) (p : q.Prog) (f : q.Func) (c : Around) (bound 
           kept = λ q l ne. register-other after to q (Pointer o (i + base)) ne ∙ came.kept q (omega arith) (λ e. omega arith);
           has = (o, i + base, register-same after to (Pointer o (i + base)), part);
         })))
+
+    -- what a struct's assignment stores
+    sourced : (e : q.Expr) → Lowers e → (count : ℕ) (cells : List Cell) (v : Value) (top : ℕ) (entry next : Point) → IsTyped p f e → shape_of p e ≡ Some (q.Struct count cells) → Codes p c.first blocks e top (top + 1) entry next
+        → (n : Mark) (registers : ℕ → Value) (store : Store) (s : typed.State) → Ready p f c bound s store
+        → Does u g p home next (at home n entry registers store s) (Sourced count cells v (is_read e) registers top (top + 1)) (stored (q.Struct count cells) v (is_read e) (value_of c e) (source_of c e) s)
+    sourced (q.Read (q.Scalar kind) b) value count cells v top entry next t same codes n registers store s ready = absurd (cc)
+    sourced (q.Read (q.Struct many ds) b) value count cells v top entry next t same codes n registers store s ready =
+        let place = where_of p c.first blocks b (top + 1) in
+        does-bind u g p home (placed b (top + 1) entry (before (Address top place) next) t.1 codes n registers store s ready)
+        (λ from w n₁ after left stood.
+        does-checked u g p home (source_for cells v from) w _ (λ there fine.
+        let apart = source-clear cells v from there fine in
+        subst (λ x. Does u g p home next (at home n₁ (before (Address top place) next) after left w) (Sourced count cells v true registers top (top + 1)) (read_at (q.Struct count cells) x w)) (sym apart.0)
+        (does-weaker u g p home (λ vs x last other k. record { came = k.0; clear = λ yes o i target. apart.1 o i k.0.has.0 k.0.has.1 target (sym k.1 ∙ k.0.has.2) })
+        (struct-line u g p home from place count cells top (top + 1) n₁ next registers after left w (designates c p blocks b (top + 1) from w.world.store left after stood.agrees stood.is) stood.agrees (λ x l ne. stood.kept x l)))))
+    sourced e value count cells v top entry next t same codes n registers store s ready =
+        does-weaker u g p home (λ vs x last other came. record { came = came; clear = λ yes. absurd (cc) })
+        (as-shape same (value top (top + 1) entry next (omega arith) codes n registers store s ready))
 
     pub arguments : (es : q.Exprs) (os : List q.LocalObject) (free : ℕ) (entry next : Point) → AreArguments p f os es → CodesArguments p c.first blocks es free entry next
         → (n : Mark) (registers : ℕ → Value) (store : Store) (s : typed.State) → Ready p f c bound s store → Does u g p home next (at home n entry registers store s) (Passed registers free (count_of es)) (values_of c es s)

@@ -1,12 +1,13 @@
 -- What places and expressions become. Each relation is between two points of a function's code: at which lines a part
 -- begins, and with which it goes on. A struct's value is the address of its place.
-use Rattle.std.specs.Prelude.{◌≡◌, ◌⊎◌, ℕ, zero, suc, ◌+◌, ◌-◌, ◌==◌, max, Bool, true, false, List, [], ◌∷◌, ◌++◌, length, take, drop, pos, Option, Some, None, slice_get}
+use Rattle.std.specs.Prelude.{◌≡◌, ◌⊎◌, ℕ, zero, suc, ◌+◌, ◌-◌, ◌==◌, ◌||◌, Bool, true, false, List, [], ◌∷◌, ◌++◌, length, take, drop, pos, Option, Some, None, slice_get}
 use Rattle.im_num.specs.declared.kind.Kind.TheVariants.{Ptr}
-use Rattle.im_num.specs.Kinds.{kind_size}
 use Rattle.im_ctype.specs.declared.cell.Cell.{Cell}
 use Rattle.im_store.specs.Statics.{StaticObject}
 use Rattle.im_typed.specs.declared.expression.Change.TheVariants.{Number as NumberBy, Move as PointerBy}
 use Rattle.im_typed.specs.Program as p
+use Rattle.im_typed.specs.Values.{extent}
+use Rattle.im_typed.specs.Meaning.{is_read}
 use Rattle.im_typed.specs.Typing.{shape_of}
 use Rattle.im_block.specs.declared.code.Place.{Place}
 use Rattle.im_block.specs.declared.code.Place.TheVariants.{Static, Local, Through}
@@ -79,11 +80,6 @@ CodesGroups pointer place zero cells s t = CodesGroup pointer place cells s t
 CodesGroups pointer place (suc n) cells s t =
     (m : Point) × CodesGroup pointer place (take 8 cells) s m × CodesGroups pointer place n (drop 8 cells) m t
 
--- the bytes from a struct's start to the end of its cells
-abbrev pub extent : List Cell → ℕ
-extent [] = 0
-extent (c ∷ cs) = max (c.offset + kind_size c.kind) (extent cs)
-
 -- the bytes of a static, and of a function's object
 abbrev pub static_size : Option StaticObject → Option ℕ
 static_size None = None
@@ -103,12 +99,21 @@ abbrev pub fills : Option ℕ → List Cell → Bool
 fills None cells = false
 fills (Some size) cells = size == extent cells
 
+-- an object of a function, by its number in the unit
+abbrev pub fills_object : p.Prog → ℕ → List Cell → Bool
+fills_object g object cells = fills (object_size (slice_get (all_objects g.funcs) (object - length g.statics))) cells
+
 -- the struct is a whole object: one that overlaps it is the same
 abbrev pub is_whole : p.Prog → ℕ → p.Place → List Cell → Bool
 is_whole g first (p.Static n) cells = fills (static_size (slice_get g.statics n)) cells
-is_whole g first (p.Local n) cells = fills (object_size (slice_get (all_objects g.funcs) (first + n - length g.statics))) cells
+is_whole g first (p.Local n) cells = fills_object g (first + n) cells
 is_whole g first (p.Target e) cells = false
 is_whole g first (p.Member a d) cells = false
+
+-- a struct is copied in groups where what is read is the target or shares no byte with it (C11 6.5.16.1p3): the target is a
+-- whole object, or the value is directly read
+abbrev pub in_groups : p.Prog → ℕ → p.Place → List Cell → p.Expr → Bool
+in_groups g first a cells e = is_whole g first a cells || is_read e
 
 abbrev pub count_of : p.Exprs → ℕ
 count_of p.no_exprs = 0
@@ -166,7 +171,7 @@ module _ (g : p.Prog) (first : ℕ) (blocks : List Block) where
     Codes (p.Assign (p.Scalar kind) a e) to free s t =
         (m : Point) × (n : ℕ) × CodesPlace a free s m × Codes e to (above a free) m (before (Write (where_of a free) kind to n) t)
     Codes (p.Assign (p.Struct count cells) a e) to free s t =
-        (m k : Point) × (n : ℕ) × ((n ≡ 0) ⊎ (is_whole g first a cells ≡ true))
+        (m k : Point) × (n : ℕ) × ((n ≡ 0) ⊎ (in_groups g first a cells e ≡ true))
         × CodesPlace a free s m × Codes e (above a free) (above a free + 1) m k
         × CodesGroups (above a free) (where_of a free) n cells k (before (Address to (where_of a free)) t)
     Codes (p.Update a (NumberBy kind op at) e) to free s t =

@@ -1,7 +1,7 @@
 -- What statements become. Nothing lives in a register from one statement to the next: each begins with the same register,
 -- here low, and those below it are the parameters'. What follows a `return`, a `break` or a `continue` is a point that
 -- nothing leads to.
-use Rattle.std.specs.Prelude.{◌≡◌, ◌⊎◌, ℕ, zero, suc, ◌+◌, if◌then◌else◌, List, [], ◌∷◌, length, pos, Option, Some, None, slice_get}
+use Rattle.std.specs.Prelude.{◌≡◌, ◌⊎◌, ℕ, zero, suc, ◌+◌, if◌then◌else◌, true, List, [], ◌∷◌, pos, Option, Some, None, slice_get}
 use Rattle.im_num.specs.declared.kind.Kind.{Kind}
 use Rattle.im_num.specs.declared.kind.Kind.TheVariants.{I32, Ptr}
 use Rattle.im_ctype.specs.declared.cell.Cell.{Cell}
@@ -15,7 +15,7 @@ use Rattle.im_block.specs.declared.code.Line.{Line}
 use Rattle.im_block.specs.declared.code.Line.TheVariants.{Put, PutNull, Compare, Write}
 use Rattle.im_block.specs.declared.code.Exit.TheVariants.{Jump, Turn, Branch, Return}
 use Rattle.im_block.specs.declared.code.Block.{Block}
-use Rattle.im_lower_relation.specs.Codes.{Point, before, ends, Begins, reads_of, writes_of, Codes, CodesTest}
+use Rattle.im_lower_relation.specs.Codes.{Point, before, ends, Begins, fills_object, Codes, CodesGroups, CodesTest}
 
 -- zero or null, into a register
 abbrev pub zero_line : ℕ → Kind → Line
@@ -55,12 +55,12 @@ module _ (low : ℕ) (blocks : List Block) where
 
 -- the number of the function's first object in the unit, its first register that is no parameter's, its objects, its blocks
 module _ (g : p.Prog) (first low : ℕ) (objects : List p.LocalObject) (blocks : List Block) where
-  -- an expression of an initialiser, into an object of this number at this offset
+  -- an expression of an initialiser, into an object of this number at this offset; a struct that fills it is copied in groups
   abbrev pub CodesPiece : ℕ → ℕ → p.Access → p.Expr → Point → Point → Type 0
   CodesPiece object offset (p.Scalar kind) e s t = (n : ℕ) × Codes g first blocks e low (low + 1) s (before (Write (Local object offset) kind low n) t)
   CodesPiece object offset (p.Struct count cells) e s t =
-      (ns ks : List ℕ) × (length ns ≡ length cells) × (length ks ≡ length cells)
-      × Codes g first blocks e low (low + 1) s (reads_of low (low + 1) cells ns (writes_of (Local object offset) (low + 1) cells ks t))
+      (m : Point) × (n : ℕ) × ((n ≡ 0) ⊎ (fills_object g object cells ≡ true))
+      × Codes g first blocks e low (low + 1) s m × CodesGroups low (Local object offset) n cells m t
 
   abbrev pub CodesPieces : ℕ → List p.Piece → Point → Point → Type 0
   CodesPieces object [] s t = s ≡ t

@@ -1,5 +1,5 @@
 -- Expressions and statements, where what calls and operators do is related.
-use Rattle.std.proofs.Common.{ℕ, zero, suc, ◌+◌, ◌≤◌, List, [], ◌∷◌, false, length, take, drop, arith}
+use Rattle.std.proofs.Common.{ℕ, zero, suc, ◌+◌, ◌≤◌, List, [], ◌∷◌, Bool, true, false, length, take, drop, arith}
 use Rattle.std.specs.Prelude.{Option, Some, None, pos}
 use Rattle.im_num.specs.Kinds.{wrap}
 use Rattle.im_store.specs.Numbers.{apply_one}
@@ -7,10 +7,10 @@ use Rattle.im_store.specs.Objects.{Named, Object, Value, Number, Null, Pointer, 
 use Rattle.im_store.specs.declared.undefined.Undefined.TheVariants.{MissingResult}
 use Rattle.im_store.specs.Access.{taken}
 use Rattle.im_store.specs.Pointers.{moved_by, bytes_moved, member_at, distance, compare_values, holds}
-use Rattle.im_typed.specs.Program.{Place, Static, Local, Target, Member, Expr, Constant, NullPointer, Read, Address, Convert, Unary, Binary, Move, MoveBy, Distance, Compare, Not, And, Or, Choose, Comma, Discard, Assign, Update, Increment, Part, Call, Serve, no_argument, an_argument, Exprs, no_exprs, more_exprs, Piece, Stmt, Do, Forget, Initialise, Block, If, While, DoWhile, For, Switch, Break, Continue, Return, Stmts, no_stmts, more_stmts}
+use Rattle.im_typed.specs.Program.{Access, Scalar, Struct, Place, Static, Local, Target, Member, Expr, Constant, NullPointer, Read, Address, Convert, Unary, Binary, Move, MoveBy, Distance, Compare, Not, And, Or, Choose, Comma, Discard, Assign, Update, Increment, Part, Call, Serve, no_argument, an_argument, Exprs, no_exprs, more_exprs, Piece, Stmt, Do, Forget, Initialise, Block, If, While, DoWhile, For, Switch, Break, Continue, Return, Stmts, no_stmts, more_stmts}
 use Rattle.im_typed.specs.Runs.{Run, ◌>>=◌, give, starve, with_fuel, either}
-use Rattle.im_typed.specs.Values.{Values, Operates, cells_of, used, value_in}
-use Rattle.im_typed.specs.Meaning.{Around, Calls, Flow, Next, Broke, Continued, Returned, after_turn, place_of, value_of, values_of, turns, decides, entered, out_of_switch, forgotten, cleared, given_offsets, initialise, returned, does, does_from}
+use Rattle.im_typed.specs.Values.{Values, Operates, cells_of, source_for, used, value_in}
+use Rattle.im_typed.specs.Meaning.{Around, Calls, Flow, Next, Broke, Continued, Returned, after_turn, place_of, value_of, is_read, stored, source_of, values_of, turns, decides, entered, out_of_switch, forgotten, cleared, given_offsets, initialise, returned, does, does_from}
 use Rattle.im_typed.proofs.Related.{Related, Tame, tame-bind, tame-give, tame-undefined, tame-starve, tame-paid, tame-either, tame-in_store, rel-bind, rel-give, rel-checked, rel-in_store, rel-either, rel-paid, rel-paid-zero, rel-paid-suc, rel-down}
 use Rattle.im_typed.proofs.Parts.{RelatedOperates, rel-change_store, rel-used, rel-value_in, rel-number_in, rel-read_at, rel-write_at, rel-update, rel-served, rel-after, rel-after_turn, rel-decides}
 
@@ -21,6 +21,12 @@ within activation depth first capacity calls operates =
 -- calls that are related, whatever is called
 pub record RelatedCalls (k b : ℕ) (calls calls' : Calls) : Type 0 where
   pub by : (f : ℕ) (vs : List Value) → Related k b (calls f vs) (calls' f vs)
+
+rel-stored : {k b : ℕ} (x : Access) (at : Value) (read : Bool) {value value' : Run Values} {source source' : Run Value} → Related k b value value' → Related k b source source' → Related k b (stored x at read value source) (stored x at read value' source')
+rel-stored (Scalar kind) at read v s = v
+rel-stored (Struct count cells) at false v s = v
+rel-stored (Struct count cells) at true v s =
+    rel-bind s (λ from. rel-bind (rel-checked (source_for cells at from)) (λ there. rel-read_at (Struct count cells) there))
 
 -- loops
 
@@ -126,13 +132,17 @@ module _ (k b activation depth first capacity : ℕ) (calls calls' : Calls) (ope
     rel-value (Comma x y) = rel-bind (rel-value x) (λ _. rel-value y)
     rel-value (Discard x) = rel-bind (rel-value x) (λ _. rel-give [])
     rel-value (Assign x a e) =
-        rel-bind (rel-place a) (λ at. rel-bind (rel-value e) (λ vs. rel-bind (rel-used vs) (λ _. rel-write_at x at vs)))
+        rel-bind (rel-place a) (λ at. rel-bind (rel-stored x at (is_read e) (rel-value e) (rel-source e)) (λ vs. rel-bind (rel-used vs) (λ _. rel-write_at x at vs)))
     rel-value (Update a change e) = rel-bind (rel-place a) (λ at. rel-update operated change false at (rel-number_in (rel-value e)))
     rel-value (Increment a change old) = rel-bind (rel-place a) (λ at. rel-update operated change old at (rel-give (pos 1)))
     rel-value (Part from x e) = rel-bind (rel-value e) (λ vs. rel-give (take (length (cells_of x)) (drop from vs)))
     rel-value (Call f es) = rel-bind (rel-values es) (λ vs. called.by f vs)
     rel-value (Serve service no_argument) = rel-paid (rel-served capacity service (pos 0))
     rel-value (Serve service (an_argument e)) = rel-bind (rel-number_in (rel-value e)) (λ z. rel-paid (rel-served capacity service z))
+
+    pub rel-source : (e : Expr) → Related k b (source_of c e) (source_of d e)
+    rel-source (Read x a) = rel-place a
+    rel-source _ = rel-give Null
 
     pub rel-values : (es : Exprs) → Related k b (values_of c es) (values_of d es)
     rel-values no_exprs = rel-give []

@@ -10,7 +10,7 @@ use Rattle.im_store.specs.im_ctype.declared.cell.Cell.{Cell}
 use Rattle.im_store.specs.declared.operators.BinaryOp.{BinaryOp}
 use Rattle.im_store.specs.declared.operators.BinaryOp.TheVariants.{ShiftLeft, ShiftRight}
 use Rattle.im_store.specs.Numbers.{apply}
-use Rattle.im_store.specs.Objects.{static, Value, Store, shape_of as object_shape}
+use Rattle.im_store.specs.Objects.{static, Value, Null, Store, shape_of as object_shape}
 use Rattle.im_store.specs.Statics.{StaticObject}
 use Rattle.im_store.specs.Pointers.{moved_by, bytes_moved, member_at, distance, compare_values, holds}
 use Rattle.im_store.proofs.OfKind.{IsOperand, apply-of_kind, apply_one-of_kind}
@@ -22,8 +22,8 @@ use Rattle.im_typed.specs.declared.expression.Change.{Change}
 use Rattle.im_typed.specs.declared.expression.Change.TheVariants.{Number as NumberBy, Move as PointerBy}
 use Rattle.im_typed.specs.Program.{Access, Scalar, Struct, Place, Static, Local, Target, Member, Expr, Constant, NullPointer, Read, Address, Convert, Unary, Binary, Move, MoveBy, Distance, Compare, Not, And, Or, Choose, Comma, Discard, Assign, Update, Increment, Part, Call, Serve, no_argument, an_argument, Exprs, no_exprs, more_exprs, LocalObject, Func, Prog}
 use Rattle.im_typed.specs.Runs.{World, State, Answer, Run, goes_on, checked}
-use Rattle.im_typed.specs.Values.{Values, Operates, computes, used, number_of, number_in, cells_of, update, changed, changed_kind}
-use Rattle.im_typed.specs.Meaning.{Around, Calls, local, place_of, value_of, values_of, served}
+use Rattle.im_typed.specs.Values.{Values, Operates, computes, used, number_of, number_in, cells_of, source_for, update, changed, changed_kind}
+use Rattle.im_typed.specs.Meaning.{Around, Calls, local, place_of, value_of, is_read, stored, source_of, values_of, served}
 use Rattle.im_typed.specs.Typing.{Each, IsInteger, IsGiven, IsRightShape, IsChange, IsStep, IsPart, TakesArgument, kinds_of, parameters, result_shape, shape_of, IsTypedPlace, IsTyped, AreArguments, IsPromotedShape, IsIntegerShape}
 use Rattle.im_typed.specs.Sound.{IsValue, IsSoundWorld, IsHere, AreValues, Fits, ArgumentsFit, KeepsWorld, IsRight}
 use Rattle.im_typed.proofs.Sounds.{keeps-trans, value-kept, here-kept, right-bind, right-give, right-weaker, right-checked, right-paid, right-either, right-used_values, right-value_in, right-scalar, right-number_in, right-integer}
@@ -168,6 +168,15 @@ module _ (g : Prog) where
   either-value w kind true before after h k = h
   either-value w kind false before after h k = k
 
+  right-stored : (x : Access) (at : Value) (read : Bool) (value : Run Values) (source : Run Value) (s : State) → IsRight g.statics s.world (Fits (Some x)) (value s) → IsRight g.statics s.world (λ w v. Unit {0}) (source s)
+      → IsRight g.statics s.world (Fits (Some x)) (stored x at read value source s)
+  right-stored (Scalar kind) at read value source s v h = v
+  right-stored (Struct count cells) at false value source s v h = v
+  right-stored (Struct count cells) at true value source s v h =
+      right-bind g.statics h (λ from t sane kept _.
+      right-bind g.statics (right-checked g.statics (λ w v. Unit {0}) t (source_for cells at from) sane (λ v e. tt)) (λ there u sane₁ kept₁ _.
+      right-read g.statics (Struct count cells) there u sane₁))
+
   right-changed : (operates : Operates) → RightOperates g operates → (c : Change) (before : Value) (by : ℤ) (s : State) → IsStep c → IsSoundWorld g.statics s.world → IsAmount c by
       → IsRight g.statics s.world (λ w v. IsValue w.activations w.store (changed_kind c) v) (changed operates c before by s)
   right-changed operates h (NumberBy kind op at) before by s step sane amount =
@@ -295,7 +304,8 @@ module _ (g : Prog) where
           right-bind g.statics (right-value a s t sane here) (λ _ u sane₁ kept h. right-give g.statics u _ sane₁ refl)
       right-value (Assign x a e) s t sane here =
           right-bind g.statics (right-place a s t.1 sane here) (λ at u sane₁ kept h.
-          right-bind g.statics (at-shape t.3 (right-value e u t.2 sane₁ (here-kept kept here))) (λ vs v sane₂ kept₂ hv.
+          right-bind g.statics (right-stored x at (is_read e) (value_of c e) (source_of c e) u
+          (at-shape t.3 (right-value e u t.2 sane₁ (here-kept kept here))) (right-source e u t.2 sane₁ (here-kept kept here))) (λ vs v sane₂ kept₂ hv.
           right-bind g.statics (right-used_values g.statics x v vs sane₂ hv) (λ _ w sane₃ kept₃ hw. right-write g.statics x at vs w sane₃ hw)))
       right-value (Update a change e) s t sane here =
           right-bind g.statics (right-place a s t.0 sane here) (λ at u sane₁ kept h.
@@ -318,6 +328,10 @@ module _ (g : Prog) where
           (λ z u sane₁ kept h.
           right-paid g.statics (Fits (Some (Scalar (row service).result))) u.world u.fuel _ (λ left.
           right-served c.capacity service z (record { world = u.world; fuel = left }) sane₁))
+
+      pub right-source : (e : Expr) (s : State) → IsTyped g f e → IsSoundWorld g.statics s.world → IsHere f c s.world → IsRight g.statics s.world (λ w v. Unit {0}) (source_of c e s)
+      right-source (Read x a) s t sane here = right-weaker g.statics (right-place a s t.1 sane here) (λ w v h. tt)
+      right-source _ s t sane here = right-give g.statics s Null sane tt
 
       pub right-values : (es : Exprs) (os : List LocalObject) (s : State) → AreArguments g f os es → IsSoundWorld g.statics s.world → IsHere f c s.world → IsRight g.statics s.world (ArgumentsFit os) (values_of c es s)
       right-values no_exprs [] s t sane here = right-give g.statics s [] sane tt

@@ -8,11 +8,11 @@ use Rattle.im_store.specs.Numbers.{apply_one}
 use Rattle.im_store.specs.Objects.{Named, Object, static, Value, Null, Pointer, Unset, Shape, Store, same_object, zero_of}
 use Rattle.im_store.specs.Pointers.{moved_by, bytes_moved, member_at, distance, compare_values, holds}
 use Rattle.im_typed.specs.declared.statement.Case.{Case}
-use Rattle.im_typed.specs.Program.{Place, Static, Local, Target, Member, Expr, Constant, NullPointer, Read, Address, Convert, Unary, Binary, Move, MoveBy, Distance, Compare, Not, And, Or, Choose, Comma, Discard, Assign, Update, Increment, Part, Call, Serve, no_argument, an_argument, Exprs, no_exprs, more_exprs, Piece, Stmt, Do, Forget, Initialise, Block, If, While, DoWhile, For, Switch, Break, Continue, Return, Stmts, no_stmts, more_stmts}
+use Rattle.im_typed.specs.Program.{Access, Scalar, Struct, Place, Static, Local, Target, Member, Expr, Constant, NullPointer, Read, Address, Convert, Unary, Binary, Move, MoveBy, Distance, Compare, Not, And, Or, Choose, Comma, Discard, Assign, Update, Increment, Part, Call, Serve, no_argument, an_argument, Exprs, no_exprs, more_exprs, Piece, Stmt, Do, Forget, Initialise, Block, If, While, DoWhile, For, Switch, Break, Continue, Return, Stmts, no_stmts, more_stmts}
 use Rattle.im_serve.specs.declared.service.Service.{Service}
 use Rattle.im_serve.specs.Services.{serve}
 use Rattle.im_typed.specs.Runs.{World, Run, ◌>>=◌, give, starve, look, change, with_fuel, either, checked, in_store}
-use Rattle.im_typed.specs.Values.{Values, Operates, scalar, number, truth, used, value_in, number_in, cells_of, read_at, write_at, update}
+use Rattle.im_typed.specs.Values.{Values, Operates, scalar, number, truth, used, value_in, number_in, cells_of, source_for, read_at, write_at, update}
 
 -- what a call does, by the number of the function and the arguments
 abbrev pub Calls : Type 0
@@ -40,6 +40,21 @@ served capacity service z = do
   w ← look
   _ ← change (after_service capacity service z)
   number (serve service capacity z w.input w.output).value
+
+-- an expression is the value of a place
+abbrev pub is_read : Expr → Bool
+is_read (Read x a) = true
+is_read e = false
+
+-- the value that is stored at a place, or the source of one that is read: a struct's is this place, or has no byte in common
+-- with it (C11 6.5.16.1p3)
+abbrev pub stored : Access → Value → Bool → Run Values → Run Value → Run Values
+stored (Scalar kind) at is_read value source = value
+stored (Struct count cells) at false value source = value
+stored (Struct count cells) at true value source = do
+  from ← source
+  there ← checked (source_for cells at from)
+  read_at (Struct count cells) there
 
 module _ (c : Around) where
   abbrev pub local : ℕ → Object
@@ -119,7 +134,7 @@ module _ (c : Around) where
       give []
     value_of (Assign x a e) = do
       at ← place_of a
-      vs ← value_of e
+      vs ← stored x at (is_read e) (value_of e) (source_of e)
       _ ← used vs
       write_at x at vs
     value_of (Update a change e) = do
@@ -138,6 +153,11 @@ module _ (c : Around) where
     value_of (Serve service (an_argument e)) = do
       z ← number_in (value_of e)
       with_fuel (served c.capacity service z)
+
+    -- the place that an expression reads
+    pub source_of : Expr → Run Value
+    source_of (Read x a) = place_of a
+    source_of e = give Null
 
     -- the arguments of a call, in order
     pub values_of : Exprs → Run (List Value)

@@ -263,6 +263,14 @@ copies_itself =
     (Initialise 0 2 (piece 0 (Scalar U8) (Convert U8 (int 7)) ∷ piece 4 (Scalar I32) (int 1) ∷ [])
     ∷ Do (Assign struct_s (Local 0) (Read struct_s (Local 0))) ∷ returns (digits_of (Local 0)) ∷ [])
 
+-- `struct s { int x; int y; }; int a[4] = {1, 2, 3, 4}; *(struct s *) a = *(struct s *) (a + n); return a[0] * 10 + a[1];`
+abbrev pub copies_within : ℕ → Setting
+copies_within n =
+    main_only (object 16 (ints 0 4) ∷ [])
+    (Initialise 0 4 (piece 0 (Scalar I32) (int 1) ∷ piece 4 (Scalar I32) (int 2) ∷ piece 8 (Scalar I32) (int 3) ∷ piece 12 (Scalar I32) (int 4) ∷ [])
+    ∷ Do (Assign (Struct 2 (ints 0 2)) (Local 0) (Read (Struct 2 (ints 0 2)) (element 4 (Local 0) n)))
+    ∷ returns (plus (times (get (Local 0)) (int 10)) (get (Member (Local 0) 4))) ∷ [])
+
 -- `int i = 1, a[3] = {i++, i++}; return a[0] + a[1] * 10 + a[2] * 100 + i * 1000;`
 abbrev pub initialises_in_order : Setting
 initialises_in_order =

@@ -1,16 +1,16 @@
 -- The values that expressions give, and what it is to use one (C11 6.5, 6.9.1); reading and storing at a place.
-use Rattle.std.specs.Prelude.{Bool, List, [], ◌∷◌, ℤ, pos, if◌then◌else◌}
+use Rattle.std.specs.Prelude.{ℕ, ◌+◌, max, Bool, not, List, [], ◌∷◌, ℤ, pos, if◌then◌else◌}
 use Rattle.im_num.specs.declared.kind.Kind.{Kind}
 use Rattle.im_num.specs.declared.kind.Kind.TheVariants.{Ptr}
-use Rattle.im_num.specs.Kinds.{wrap}
+use Rattle.im_num.specs.Kinds.{wrap, kind_size}
 use Rattle.im_store.specs.im_ctype.declared.cell.Cell.{Cell}
 use Rattle.im_store.specs.declared.operators.BinaryOp.{BinaryOp}
-use Rattle.im_store.specs.declared.undefined.Undefined.TheVariants.{NoSuchCell, MissingResult}
-use Rattle.im_store.specs.Checks.{Checked, Fine, Bad}
+use Rattle.im_store.specs.declared.undefined.Undefined.TheVariants.{NoSuchCell, MissingResult, PartialOverlap}
+use Rattle.im_store.specs.Checks.{Checked, Fine, Bad, unless}
 use Rattle.im_store.specs.Numbers.{apply}
 use Rattle.im_store.specs.Objects.{Value, Number, Null, Pointer, Unset}
 use Rattle.im_store.specs.Access.{taken, read_cells, write_cells, at_place}
-use Rattle.im_store.specs.Pointers.{moved_by, bytes_moved}
+use Rattle.im_store.specs.Pointers.{moved_by, bytes_moved, overlap_in_part}
 use Rattle.im_typed.specs.declared.expression.Change.{Change}
 use Rattle.im_typed.specs.declared.expression.Change.TheVariants.{Number as NumberBy, Move as PointerBy}
 use Rattle.im_typed.specs.Program.{Access, Scalar, Struct}
@@ -55,6 +55,15 @@ number_in m = do
 abbrev pub cells_of : Access → List Cell
 cells_of (Scalar kind) = record { offset = 0; kind = kind } ∷ []
 cells_of (Struct count cells) = cells
+
+-- the bytes from a struct's start to the end of its cells
+abbrev pub extent : List Cell → ℕ
+extent [] = 0
+extent (c ∷ cs) = max (c.offset + kind_size c.kind) (extent cs)
+
+-- where a struct is read that is stored at a place, unless both overlap in part
+abbrev pub source_for : List Cell → Value → Value → Checked Value
+source_for cells at from = unless (not (overlap_in_part (extent cells) at from)) from PartialOverlap
 
 abbrev pub read_at : Access → Value → Run Values
 read_at x at = in_store (λ store. at_place at (λ o offset. read_cells store o offset (cells_of x)))

@@ -13,7 +13,7 @@ ghost use Rattle.im_store.specs.declared.undefined.Undefined.TheVariants.{ZeroDi
 ghost use Rattle.im_store.specs.declared.undefined.Undefined.TheVariants.{QuotientOverflow};
 ghost use Rattle.im_store.specs.declared.undefined.Undefined.TheVariants.{ShiftCount};
 ghost use Rattle.im_store.specs.declared.undefined.Undefined.TheVariants.{MissingResult};
-ghost use Rattle.im_store.specs.declared.undefined.Undefined.TheVariants.{DeadPointerRead};
+ghost use Rattle.im_store.specs.declared.undefined.Undefined.TheVariants.{DeadPointerRead, PartialOverlap};
 ghost use Rattle.im_store.specs.Outcomes.{Undef, More, End};
 ghost use Rattle.im_typed.specs.Program.{Local, Target, Member, Address, Move, Compare};
 ghost use Rattle.im_typed.specs.Program.{NullPointer};
@@ -24,7 +24,7 @@ ghost use Rattle.im_typed.specs.Samples.{computes, signed_char_of_200, endless, 
 ghost use Rattle.im_typed.specs.Samples.{recurses, has_two_activations, reads_dead_pointer};
 ghost use Rattle.im_typed.specs.Samples.{uses_dead_result, uses_missing_result, writes_twice};
 ghost use Rattle.im_typed.specs.Samples.{reads_twice, compares_with_one, reads_struct};
-ghost use Rattle.im_typed.specs.Samples.{reads_unset_struct, takes_part, copies_itself};
+ghost use Rattle.im_typed.specs.Samples.{reads_unset_struct, takes_part, copies_itself, copies_within};
 ghost use Rattle.im_typed.specs.Samples.{initialises_in_order, initialises_from_itself, switches};
 ghost use Rattle.im_typed.specs.Samples.{goes_on_in_rows, subtracts, orders, orders_two_objects};
 ghost use Rattle.im_typed.specs.Samples.{with_null};
@@ -154,6 +154,17 @@ pub fn struct_values()
         meaning (takes_part 0) input fuel ≡ End 0 (pos 3) [] [] }
     ensures itself { (input : List ℕ) (fuel : ℕ) →
         meaning copies_itself input fuel ≡ End 0 (pos 71) [] [] }
+{}
+
+/// A struct is assigned from itself, and from one that has no byte in common with it; an overlap in
+/// part is undefined (C11 6.5.16.1).
+pub fn struct_copies()
+    ensures itself { (input : List ℕ) (fuel : ℕ) →
+        meaning (copies_within 0) input fuel ≡ End 0 (pos 12) [] [] }
+    ensures in_part { (input : List ℕ) (fuel : ℕ) →
+        meaning (copies_within 1) input fuel ≡ Undef PartialOverlap }
+    ensures apart { (input : List ℕ) (fuel : ℕ) →
+        meaning (copies_within 2) input fuel ≡ End 0 (pos 34) [] [] }
 {}
 
 /// The expressions of an initialiser are stored one after another, and the cells without one are

@@ -157,6 +157,11 @@ impl Drop for Expr {
                     pointer,
                     by: _by,
                 } => self = Box::into_inner(pointer),
+                Expr::MoveBy {
+                    size: _,
+                    by: _by,
+                    pointer,
+                } => self = Box::into_inner(pointer),
                 Expr::Read(_, place) => match Box::into_inner(place).into_pointer() {
                     Some(pointer) => self = pointer,
                     None => return,
@@ -169,11 +174,6 @@ impl Drop for Expr {
                 Expr::Null => return,
                 Expr::Unary(_, _, _operand) => return,
                 Expr::Binary(_, _, _left, _right) => return,
-                Expr::MoveBy {
-                    size: _,
-                    by: _by,
-                    pointer: _pointer,
-                } => return,
                 Expr::Distance {
                     size: _,
                     left: _left,

@@ -14,8 +14,8 @@ pub use counts::{need, nodes};
 pub use examples::{
     activations, dead_pointers, endless_loop, initialisers, input_and_output, left_to_right,
     missing_result, null_pointer, order_by_kind, pointers, quotient_overflow, recursion,
-    recursive_main, rows, shifts, struct_access, struct_values, switch_statement, truncation,
-    uninitialised_read, wrapping, zero_divisor,
+    recursive_main, rows, shifts, struct_access, struct_copies, struct_values, switch_statement,
+    truncation, uninitialised_read, wrapping, zero_divisor,
 };
 pub use expression::{Access, Change, Expr, Place};
 pub use frames::{Frame, Frames};

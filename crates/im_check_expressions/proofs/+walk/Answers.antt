@@ -1,12 +1,13 @@
 use Rattle.std.proofs.Common.{arith, ◌≡◌, ◌+◌, true, refl, sym, ap, subst, ◌∙◌}
 use Rattle.std.proofs.lemmas.Result.{err_from_is_err_and}
+use Rattle.std.proofs.lemmas.List.{nil_from_length}
 use Rattle.im_ctree.specs.declared.declarator.Declarator.{out-Declarator}
 use Rattle.im_ctree.specs.declared.declarator.SuffixKind as xk
-use Rattle.im_ctree.specs.Shape.{expression_of, type_name_of}
-use Rattle.im_check_expression_parts.specs.im_rules.Strings.{strings_in, strings_named}
+use Rattle.im_ctree.specs.Shape.{expression_of}
+use Rattle.im_check_expression_parts.specs.im_rules.Strings.{strings_in}
 use Rattle.im_check_expression_parts.specs.im_rules.Breaks as b
 use Rattle.im_check_expression_parts.specs.im_rules.Declared.{with_stars, called}
-use Rattle.im_ctree_parts.specs.Lists.{expression_in, stars_in, with_suffix}
+use Rattle.im_ctree_parts.specs.Lists.{expression_in, expressions_from, stars_in, with_suffix}
 use Rattle.im_check_type_specifiers.specs.Specified.{qualified_of}
 use Rattle.im_ctree_parts.proofs.Shapes.{call_tree, type_name_shape, declarator_shape, parameter_shape, function_suffix}
 use Rattle.im_check_declarators.proofs.Steps.{array_tree}
@@ -21,6 +22,7 @@ use Rattle.im_check_expression_parts.proofs.SuffixesBehind.{open_given, length_g
 use Rattle.im_check_expression_parts.proofs.ParametersBehind.{parameters_none, parameters_more, parameters_fault, parameters_all, stays_inside}
 use Rattle.im_check_expression_parts.proofs.Declared.{name_unspecified, name_undeclared, name_done, none_declared, some_declared, absent_declared, name_declared, inner_declared, stars_fault, suffixes_fault, suffixed_fault, core_fault, suffixed_before, declarator_done, parameters_done, parameters_broken, parameter_unspecified, parameter_undeclared, parameter_made, inside_here}
 use Rattle.im_check_expression_parts.proofs.Forms.{name, number, character, member, arrow, post_step, pre_step, unary, size, type_size, index, binary, assign, comma, conditional, second_fault, third_fault, call, call_fault, arguments_fault, uncalled}
+use Rattle.im_check_expressions.specs.Links.{IsLinked}
 use Rattle.im_check_expressions.proofs.Chains.{named_callee, unnamed_callee, read_first, token_is, cast_linked, named_none, link_down, link_up, outer_fault, whole_typed}
 use Rattle.im_check_expressions.proofs.+walk.Goals as goal
 
@@ -44,19 +46,19 @@ pub operands::call-returns-in_err-xs : goal.operands::call-returns-in_err-xs
 operands::call-returns-in_err-xs t c =
     let p = err_from_is_err_and c.from_residual.result c.from_residual.ensures.1 in
     let tree = ap (expression_of c.args.e.now.at) c.in-Call.is ∙ call_tree c.args.e.now.at c.in-Call.callee c.in-Call.arguments in
-    rw (p.1, p.2, tree) (call_fault c.args.place.now _ _ _ _ (named_callee _ _ _ _ _ tree c.requires.ends) (rw c.deref.ensures.value at c.in_err-xs.ensures))
+    rw (p.1, p.2, tree) (call_fault c.args.place.now _ _ _ _ (named_callee (scopes_of c.args.place.now.scope) _ _ _ _ tree c.requires.ends) (rw c.deref.ensures.value at c.in_err-xs.ensures))
 
 pub operands::call-called-requires : goal.operands::call-called-requires
 operands::call-called-requires t c =
     let f = expression_in c.in-Call.callee.value in
     let tree = ap (expression_of c.args.e.now.at) c.in-Call.is ∙ call_tree c.args.e.now.at c.in-Call.callee c.in-Call.arguments in
-    let named = named_callee _ _ _ _ _ tree c.requires.ends in
+    let named = named_callee (scopes_of c.args.place.now.scope) _ _ _ _ tree c.requires.ends in
     rw c.deref-2.ensures (subst (λ (p : Place). is_function_meant (callee_of (scopes_of p.scope) f) ≡ true) (sym c.in_ok-xs.ensures.1) named)
 
 pub operands::call-returns : goal.operands::call-returns
 operands::call-returns t c =
     let tree = ap (expression_of c.args.e.now.at) c.in-Call.is ∙ call_tree c.args.e.now.at c.in-Call.callee c.in-Call.arguments in
-    rw tree (call c.args.place.now _ _ _ c.in_ok-xs.xs.items c.called.result (named_callee _ _ _ _ _ tree c.requires.ends) (rw c.deref.ensures.value at c.in_ok-xs.ensures) (rw c.deref-2.ensures at c.called.ensures))
+    rw tree (call c.args.place.now _ _ _ c.in_ok-xs.xs.items c.called.result (named_callee (scopes_of c.args.place.now.scope) _ _ _ _ tree c.requires.ends) (rw c.deref.ensures.value at c.in_ok-xs.ensures) (rw c.deref-2.ensures at c.called.ensures))
 
 pub operands::unary-returns-in_err-x-in-PreStep : goal.operands::unary-returns-in_err-x-in-PreStep
 operands::unary-returns-in_err-x-in-PreStep t c =
@@ -143,7 +145,7 @@ operands::operation-returns-in_ok-y-in-Assign t c =
 
 pub links::linked-continued-requires : goal.links::linked-continued-requires
 links::linked-continued-requires t c =
-    (c.requires.0, c.requires.1, c.requires.2, rw c.in-None.is at c.requires.3)
+    (omega arith, (c.requires.0, c.requires.1, c.requires.2, rw c.in-None.is at c.requires.3))
 
 pub links::linked-returns-in-Some : goal.links::linked-returns-in-Some
 links::linked-returns-in-Some t c =
@@ -172,7 +174,7 @@ expressions::expression-loop-first-init t c =
 
 pub expressions::expression-loop-first-preserved : goal.expressions::expression-loop-first-preserved
 expressions::expression-loop-first-preserved t c =
-    let linked = record { first = c.in-Some.ensures.first; type_named = c.in_ok-named.ensures } in
+    let linked : IsLinked c.loop-first.place (expression_in c.loop-first.rest.now) c.in_ok-named.named _ (expression_in c.in-Some.first.now) = record { first = c.in-Some.ensures.first; type_named = c.in_ok-named.ensures } in
     (link_down _ _ _ _ _ _ _ _ _ _ c.in_ok-push.ensures.items refl c.loop-first.invariant.0 linked c.loop-first.invariant.1, omega (arith, c.in-Some.ensures.below, c.loop-first.invariant.1))
 
 pub expressions::expression-returns-in_err-named : goal.expressions::expression-returns-in_err-named
@@ -207,7 +209,7 @@ links::continued-returns-in_err-xs-in-Call t c =
     let p = err_from_is_err_and c.from_residual-in_err-xs-in-Call.result c.from_residual-in_err-xs-in-Call.ensures.1 in
     let tree = ap (expression_of c.args.whole.now.at) c.in-Call.is ∙ call_tree c.args.whole.now.at c.in-Call.field-0 c.in-Call.arguments in
     rw (p.1, p.2) (λ s q f h typed.
-    let called = unnamed_callee _ _ _ _ _ (rw tree at h.first) in
+    let called = unnamed_callee (scopes_of s.scope) c.args.whole.now.at (expression_in c.in-Call.field-0.value) (expressions_from c.in-Call.arguments.items) f (rw tree at h.first) in
     let read = read_first s q _ _ f c.args.x called.1 (rw tree at h.type_named) typed in
     rw tree (arguments_fault s _ _ _ _ read.1 (rw c.deref-in-Call.ensures.value at c.in_err-xs-in-Call.ensures)))
 
@@ -215,7 +217,7 @@ pub links::continued-returns-in_ok-xs-in-Call : goal.links::continued-returns-in
 links::continued-returns-in_ok-xs-in-Call t c =
     let tree = ap (expression_of c.args.whole.now.at) c.in-Call.is ∙ call_tree c.args.whole.now.at c.in-Call.field-0 c.in-Call.arguments in
     rw c.not_called.ensures (λ s q f h typed.
-    let called = unnamed_callee _ _ _ _ _ (rw tree at h.first) in
+    let called = unnamed_callee (scopes_of s.scope) c.args.whole.now.at (expression_in c.in-Call.field-0.value) (expressions_from c.in-Call.arguments.items) f (rw tree at h.first) in
     let read = read_first s q _ _ f c.args.x called.1 (rw tree at h.type_named) typed in
     rw tree (uncalled s _ _ _ c.args.x c.in_ok-xs-in-Call.xs.items called.0 read (rw c.deref-in-Call.ensures.value at c.in_ok-xs-in-Call.ensures)))
 
@@ -253,24 +255,24 @@ links::continued-returns-in_ok-comma_term-in-Comma t c =
 pub expressions::expression-linked-requires : goal.expressions::expression-linked-requires
 expressions::expression-linked-requires t c =
     let up = link_up _ _ _ _ _ _ _ _ c.in-Some-pop.ensures.items c.loop-whole.invariant.outer in
-    (up.place, c.loop-whole.invariant.place, c.loop-whole.invariant.operand, up.linked)
+    (omega (arith, up.below), (up.place, c.loop-whole.invariant.place, c.loop-whole.invariant.operand, up.linked))
 
 pub expressions::expression-loop-whole-preserved : goal.expressions::expression-loop-whole-preserved
 expressions::expression-loop-whole-preserved t c =
     let at = c.loop-whole.invariant in
     let up = link_up _ _ _ _ _ _ _ _ c.in-Some-pop.ensures.items at.outer in
-    record { place = up.place; operand = _; outer = up.outer; typed = c.in_ok-linked.ensures _ _ _ up.linked at.typed }
+    record { place = up.place; operand = _; outer = up.outer; typed = c.in_ok-x-2.ensures _ _ _ up.linked at.typed }
 
-pub expressions::expression-returns-in_err-linked : goal.expressions::expression-returns-in_err-linked
-expressions::expression-returns-in_err-linked t c =
-    let p = err_from_is_err_and c.from_residual-in_err-linked.result c.from_residual-in_err-linked.ensures.1 in
+pub expressions::expression-returns-in_err-x-2 : goal.expressions::expression-returns-in_err-x-2
+expressions::expression-returns-in_err-x-2 t c =
+    let p = err_from_is_err_and c.from_residual-in_err-x-2.result c.from_residual-in_err-x-2.ensures.1 in
     let at = c.loop-whole.invariant in
     let up = link_up _ _ _ _ _ _ _ _ c.in-Some-pop.ensures.items at.outer in
-    rw (p.1, p.2) (outer_fault _ _ _ _ _ _ _ up.outer (c.in_err-linked.ensures _ _ _ up.linked at.typed))
+    rw (p.1, p.2) (outer_fault _ _ _ _ _ _ _ up.outer (c.in_err-x-2.ensures _ _ _ up.linked at.typed))
 
 pub expressions::expression-returns : goal.expressions::expression-returns
 expressions::expression-returns t c =
-    whole_typed _ _ _ _ _ _ c.in-None.ensures.items c.loop-whole.invariant
+    whole_typed _ _ _ c.loop-whole.links.items _ _ (nil_from_length c.loop-whole.links.items (sym c.loop-whole.links.ok.0 ∙ c.in_default-pop.ensures.cases.0)) c.loop-whole.invariant
 
 pub expressions::terms-loop-argument-init : goal.expressions::terms-loop-argument-init
 expressions::terms-loop-argument-init t c =

@@ -1,4 +1,4 @@
-use Rattle.std.proofs.Common.{◌≡◌, ◌++◌, List, OnOk, ap, subst, sym, ◌∙◌, arith}
+use Rattle.std.proofs.Common.{◌≡◌, ◌++◌, List, OnOk, ap, subst, sym, ◌∙◌, arith, rules}
 use Rattle.im_check_texts.specs.im_word.Words.{Name}
 use Rattle.im_ctree.specs.Tree as tree
 use Rattle.im_ctree.specs.Shape.{declarator_of, core_of, type_name_of, expression_of, specifier_of}
@@ -44,7 +44,7 @@ pub expression::append_behind_first-returns-in-Call : goal.expression::append_be
 expression::append_behind_first-returns-in-Call t c =
     let at = c.args.e.now.at in
     let es = c.in-Call.arguments in
-    let behind = rw c.deref-in-Call.ensures.value at c.append_expressions.ensures in
+    let behind = rw c.deref.ensures.value at c.append_expressions.ensures in
     let told = ap behind_first (ap (expression_of at) c.in-Call.is ∙ call_tree at c.in-Call.field-0 es) in
     subst (λ (z : List Name). OnOk c.append_expressions.result (texts_in c.append_expressions.new.texts.items ≡ texts_in c.args.texts.now.items ++ z)) (sym told) behind
 
@@ -91,12 +91,18 @@ specifier::append_specifier-returns-in-Enum t c =
 
 pub expression::append_expression-loop-first-preserved : goal.expression::append_expression-loop-first-preserved
 expression::append_expression-loop-first-preserved t c =
-    let down = link_down _ _ _ _ _ _ c.in_ok-push.ensures.items c.in-Some.ensures.chain c.in_ok-append_before_first.ensures ∙ c.loop-first.invariant.0 in
+    let down = link_down _ _ _ _ _ (expression_in c.in-Some.first.now) c.in_ok-push.ensures.items c.in-Some.ensures.chain c.in_ok-append_before_first.ensures ∙ c.loop-first.invariant.0 in
     (down, omega (arith, c.in-Some.ensures.below, c.loop-first.invariant.1), none_deeper_more _ _ _ _ c.in_ok-push.ensures.items c.loop-first.invariant.2 c.loop-first.invariant.1)
 
 pub expression::append_expression-loop-link-init : goal.expression::append_expression-loop-link-init
 expression::append_expression-loop-link-init t c =
-    (formed _ _ _ _ c.in_ok-append_form.ensures ∙ c.loop-first.invariant.0, c.loop-first.invariant.2)
+    let whole = s.strings_in (expression_in c.loop-first.rest.now) in
+    (formed (texts_in c.loop-first.texts.items) _ whole c.loop-first.links.items c.in_ok-append_form.ensures ∙ c.loop-first.invariant.0, c.loop-first.invariant.2)
+
+pub expression::append_expression-append_behind_first-requires : goal.expression::append_expression-append_behind_first-requires
+expression::append_expression-append_behind_first-requires t c =
+    let fits = (none_deeper_less _ _ _ _ c.in-Some-pop.ensures.items c.loop-link.invariant.1).0 in
+    search (rules, fits)
 
 pub expression::append_expression-loop-link-preserved : goal.expression::append_expression-loop-link-preserved
 expression::append_expression-loop-link-preserved t c =

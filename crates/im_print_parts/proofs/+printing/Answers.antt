@@ -164,7 +164,7 @@ expressions::put_before_first-returns-in_ok-put_parenthesis-in-Cast t c =
 pub expressions::put_behind_first-returns-in_ok-put_enclosed-in-Index : goal.expressions::put_behind_first-returns-in_ok-put_enclosed-in-Index
 expressions::put_behind_first-returns-in_ok-put_enclosed-in-Index t c =
     let same = ap (λ k. parts.behind_first (known c.args.names.now) (expression_of c.args.e.now.at k)) c.in-Index.is in
-    writes_same (sym same) (writes_append (rw c.deref-in-Index.ensures at c.in_ok-put_parenthesis-in-Index.ensures) (rw c.deref-in-Index-2.ensures at c.in_ok-put_enclosed-in-Index.ensures))
+    writes_same (sym same) (writes_append (rw c.deref.ensures at c.in_ok-put_parenthesis-in-Index.ensures) (rw c.deref-in-Index.ensures at c.in_ok-put_enclosed-in-Index.ensures))
 
 pub expressions::put_behind_first-returns-in_ok-put_closed_arguments-in-Call : goal.expressions::put_behind_first-returns-in_ok-put_closed_arguments-in-Call
 expressions::put_behind_first-returns-in_ok-put_closed_arguments-in-Call t c =
@@ -174,7 +174,7 @@ expressions::put_behind_first-returns-in_ok-put_closed_arguments-in-Call t c =
 
 pub expressions::put_expression-loop-first-preserved : goal.expressions::put_expression-loop-first-preserved
 expressions::put_expression-loop-first-preserved t c =
-    let written = link_down (known c.args.names.now) _ _ _ _ c.in_ok-push.ensures.items (c.in-Some.ensures.chain (known c.args.names.now)) c.in_ok-put_before_first.ensures ∙ c.loop-first.invariant.0 in
+    let written = link_down (known c.args.names.now) _ _ _ (expression_in c.in-Some.first.now) c.in_ok-push.ensures.items (c.in-Some.ensures.chain (known c.args.names.now)) c.in_ok-put_before_first.ensures ∙ c.loop-first.invariant.0 in
     (written, omega (arith, c.in-Some.ensures.below, c.loop-first.invariant.1), none_deeper_more _ _ _ _ c.in_ok-push.ensures.items c.loop-first.invariant.2 c.loop-first.invariant.1)
 
 pub expressions::put_expression-loop-link-init : goal.expressions::put_expression-loop-link-init
@@ -183,3 +183,8 @@ expressions::put_expression-loop-link-init t c = (writing.written _ c.in_ok-put_
 pub expressions::put_expression-loop-link-preserved : goal.expressions::put_expression-loop-link-preserved
 expressions::put_expression-loop-link-preserved t c =
     (link_up (known c.args.names.now) _ _ _ c.in-Some-pop.ensures.items c.in_ok-put_behind_first.ensures ∙ c.loop-link.invariant.0, (none_deeper_less _ _ _ _ c.in-Some-pop.ensures.items c.loop-link.invariant.1).1)
+
+pub expressions::put_expression-put_behind_first-requires : goal.expressions::put_expression-put_behind_first-requires
+expressions::put_expression-put_behind_first-requires t c =
+    let below = (none_deeper_less _ _ _ _ c.in-Some-pop.ensures.items c.loop-link.invariant.1).0 in
+    omega (arith, below)

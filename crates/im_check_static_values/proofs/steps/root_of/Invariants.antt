@@ -8,5 +8,5 @@ use Rattle.im_check_static_values.proofs.steps.root_of.Given as goal
 
 abbrev pub invariant-loop-rest : goal.invariant-loop-rest
 invariant-loop-rest l =
-    ((types : Table) (size : ℕ → ℕ) → stepped size l.steps.items (spot_of size (place_of types l.rest)) ≡ stepped size l.initial.steps.items (spot_of size (place_of types l.place)))
-    × (size-Place l.rest ≤ size-Place l.place)
+    ((types : Table) (size : ℕ → ℕ) → stepped size l.steps.items (spot_of size (place_of types l.rest)) ≡ stepped size l.initial.steps.items (spot_of size (place_of types l.fn.place)))
+    × (size-Place l.rest ≤ size-Place l.fn.place)

@@ -5,6 +5,6 @@ use Rattle.im_check_items.specs.im_rules.StaticValues.{address_of}
 use Rattle.im_check_static_values.specs.Spots.{stepped}
 use Rattle.im_check_static_values.proofs.steps.static_of.Given as goal
 
-abbrev pub invariant-loop-rest : goal.invariant-loop-rest
-invariant-loop-rest l =
-    (types : Table) (size : ℕ → ℕ) → stepped size l.steps.items (address_of size (expr_of types l.rest)) ≡ stepped size l.initial.steps.items (address_of size (expr_of types l.e))
+abbrev pub invariant-loop-object : goal.invariant-loop-object
+invariant-loop-object l =
+    (types : Table) (size : ℕ → ℕ) → stepped size l.steps.items (address_of size (expr_of types l.rest)) ≡ stepped size l.initial.steps.items (address_of size (expr_of types l.fn.e))

@@ -1,22 +1,22 @@
-use Rattle.std.proofs.Common.{refl}
+use Rattle.std.proofs.Common.{ap, refl, sym}
 use Rattle.std.proofs.lemmas.Result.{err_from_is_err_and}
 use Rattle.im_store.specs.Objects as o
 use Rattle.im_typed.specs.Program.{Scalar}
 use Rattle.im_typed.specs.ProgramOf.{access_of}
 use Rattle.im_typed.specs.Meaning.{value_of}
-use Rattle.im_typed.specs.Runs.{◌>>=◌, give}
-use Rattle.im_typed.specs.Values.{computes, changed, changed_kind, read_at, scalar, update, used, value_in, write_at}
+use Rattle.im_typed.specs.Runs.{◌>>=◌, give, goes_on}
+use Rattle.im_typed.specs.Values.{computes, changed, changed_kind, read_at, scalar, update, value_in, write_at}
 use Rattle.std.specs.Prelude.{pos, ℤ, ◌∷◌, []}
 use Rattle.im_eval_store.specs.Shown.{shown}
 use Rattle.im_eval_machine.specs.Settings.{setting_of}
 use Rattle.im_eval_machine.specs.Shown.{one, values}
+use Rattle.im_eval_machine.specs.Steps.{read_for}
 use Rattle.im_eval_machine.specs.declared.found.Found.TheVariants.{One}
 use Rattle.im_eval_machine.proofs.Steps.{halts-on}
 use Rattle.im_eval_tasks.specs.Stack.{Valued, in_activation}
-use Rattle.im_eval_tasks.specs.Tasks.{operand_in}
+use Rattle.im_eval_tasks.specs.Tasks.{operand_in, stores}
 use Rattle.im_eval_tasks.specs.declared.steps.Next.TheVariants.{Just}
 use Rattle.im_eval_tasks.specs.declared.steps.Now.TheVariants.{Value}
-use Rattle.im_eval_tasks.proofs.Binds.{assoc}
 use Rattle.im_eval_steps.specs.Going.{follows, types_of}
 use Rattle.im_eval_steps.proofs.Going.{seen, unfound, went}
 use Rattle.im_eval_steps.proofs.Orders.{amount-comes}
@@ -39,12 +39,34 @@ returns-in_ok-found-in-Read-clause-goes c =
 pub returns-in-Assign-clause-goes : goal.returns-in-Assign-clause-goes
 returns-in-Assign-clause-goes c =
     let code = c.args.code in
-    let access = access_of (types_of code) c.in-Assign.access in
-    rw (c.in-Assign.is, c.deref.ensures) (λ n here ts s i. (
+    rw c.in-Assign.is (λ n here ts s i. (
       s,
       i,
-      assoc (value_of (in_activation (types_of code) (setting_of code) n here) (operand_in (types_of code) c.in-Assign.value) s)
-          (λ vs. used vs >>= (λ _. write_at access (shown c.args.place) vs)) (λ vs. follows code n here ts (Valued vs)),
+      sym (c.begin_store.ensures (types_of code) (setting_of code) n here ts s),
+    ))
+
+pub returns-in_err-found-in-Source-clause-goes : goal.returns-in_err-found-in-Source-clause-goes
+returns-in_err-found-in-Source-clause-goes c =
+    let p = err_from_is_err_and c.from_residual-in_err-found-in-Source.result c.from_residual-in_err-found-in-Source.ensures.1 in
+    let code = c.args.code in
+    let w = c.in-Source in
+    let why = c.in_err-found-in-Source.field-0.0 in
+    let reads = read_for (access_of (types_of code) w.access) (shown w.target) (shown c.args.place) in
+    rw (p.1, p.2, w.is) (λ n here ts s i.
+    halts-on why c.args.machine.now _ (λ vs. follows code n here ts (Valued vs))
+    (unfound values why c.args.machine.now s (reads s) (stores (types_of code) w.access (shown w.target)) (c.in_err-found-in-Source.ensures s i)))
+
+pub returns-in_ok-found-in-Source-clause-goes : goal.returns-in_ok-found-in-Source-clause-goes
+returns-in_ok-found-in-Source-clause-goes c =
+    let code = c.args.code in
+    let w = c.in-Source in
+    let found = c.in_ok-found-in-Source.found in
+    let reads = read_for (access_of (types_of code) w.access) (shown w.target) (shown c.args.place) in
+    let store = stores (types_of code) w.access (shown w.target) in
+    rw w.is (λ n here ts s i. (
+      s,
+      i,
+      ap (λ r. goes_on (goes_on r store) (λ vs. follows code n here ts (Valued vs))) (c.in_ok-found-in-Source.ensures s i),
     ))
 
 pub returns-in_err-before-in-Update-clause-goes : goal.returns-in_err-before-in-Update-clause-goes
@@ -63,7 +85,7 @@ returns-in_ok-before-in-Update-clause-goes c =
     let by = c.in-Update.change in
     let at = shown c.args.place in
     let before = shown c.in_ok-before-in-Update.before in
-    rw (c.in-Update.is, c.deref-in-Update.ensures) (λ n here ts s i. (
+    rw (c.in-Update.is, c.deref.ensures) (λ n here ts s i. (
       s,
       i,
       amount-comes (value_in (read_at (Scalar (changed_kind by)) at) s) before s

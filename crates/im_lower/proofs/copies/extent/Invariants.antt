@@ -1,5 +1,5 @@
 use Rattle.std.proofs.Common.{◌≡◌, drop, max}
-use Rattle.im_lower_relation.specs.Codes.{extent}
+use Rattle.im_typed.specs.Values.{extent}
 use Rattle.im_lower.proofs.copies.extent.Given as goal
 
 abbrev pub invariant-loop-cell : goal.invariant-loop-cell

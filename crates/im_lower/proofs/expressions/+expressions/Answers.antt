@@ -4,7 +4,7 @@ use Rattle.im_ctype.specs.Table.{structs_of}
 use Rattle.im_typed.specs.declared.expression.Expr.{Expr}
 use Rattle.im_typed.specs.declared.expression.Place.{Place}
 use Rattle.im_typed.specs.ProgramOf.{expr_of, place_of, program_of}
-use Rattle.im_lower_relation.specs.Codes.{is_whole}
+use Rattle.im_lower_relation.specs.Codes.{in_groups}
 use Rattle.im_lower_plain.specs.Made.{Made, close}
 use Rattle.im_lower_plain.specs.Make.{behind, groups_in, fails_made, holds_made, make, make_place, make_test, place_at, put_operator}
 use Rattle.im_lower.proofs.Makes.{and_made, choice_made, copy_made, increment_made, operator_made, or_made, struct_made, two_made, update_made, value_decides}
@@ -166,14 +166,15 @@ lower_form-returns-in_ok-lower_expression-in-Struct t c =
     let from = c.in_ok-from-in-Struct.from in
     let beside = c.in_ok-next-in-Struct.field-0 in
     let behind_is = c.in_ok-from-in-Struct.ensures types ∙ ap (λ (x : Place). behind (place_of types x) c.args.free) c.deref-in-Struct.ensures in
-    let counted = c.deref-in-Struct-3.result.now in
-    let counted_is = c.deref-in-Struct-3.ensures.value ∙ c.in_ok-cells-in-Struct.ensures in
-    let many_is = c.in_ok-groups-in-Struct.ensures.gives ∙ ap (λ (x : Place). groups_in (is_whole g c.args.first (place_of types x) counted) counted) c.deref-in-Struct-2.ensures in
-    let at_is = c.in_ok-at-in-Struct.ensures types ∙ ap (λ (x : Place). place_at c.args.first (place_of types x) c.args.free) c.deref-in-Struct-4.ensures in
-    let found_is = c.deref-in-Struct-5.ensures.value ∙ c.in_ok-cells-in-Struct.ensures in
-    let value_is = c.in_ok-lower_expression-in-Struct.ensures ∙ ap (λ (x : Expr). make g c.args.first (expr_of types x) from beside m₁) c.deref-in-Struct-6.ensures in
-    let made = copy_made g c.args.first a e s.cells c.in_ok-groups-in-Struct.groups (layout_at (layouts (structs_of types)) s.number).cells c.deref-in-Struct-5.result.now counted c.args.to c.args.free from beside c.in_ok-at-in-Struct.at m m₁ m₂ behind_is found_is counted_is many_is at_is c.in_ok-put_copy-in-Struct.ensures c.in_ok-next-in-Struct.ensures value_is in
-    let walked = ap (λ (x : Place). make_place g c.args.first (place_of types x) c.args.free m₂) c.deref-in-Struct-7.ensures in
+    let counted = c.deref-in-Struct-4.result.now in
+    let counted_is = c.deref-in-Struct-4.ensures.value ∙ c.in_ok-cells-in-Struct.ensures in
+    let many_is = c.in_ok-groups-in-Struct.ensures.gives ∙ ap (λ (x : Place). groups_in (in_groups g c.args.first (place_of types x) counted (expr_of types c.deref-in-Struct-3.result.now)) counted) c.deref-in-Struct-2.ensures
+    ∙ ap (λ (x : Expr). groups_in (in_groups g c.args.first a counted (expr_of types x)) counted) c.deref-in-Struct-3.ensures in
+    let at_is = c.in_ok-at-in-Struct.ensures types ∙ ap (λ (x : Place). place_at c.args.first (place_of types x) c.args.free) c.deref-in-Struct-5.ensures in
+    let found_is = c.deref-in-Struct-6.ensures.value ∙ c.in_ok-cells-in-Struct.ensures in
+    let value_is = c.in_ok-lower_expression-in-Struct.ensures ∙ ap (λ (x : Expr). make g c.args.first (expr_of types x) from beside m₁) c.deref-in-Struct-7.ensures in
+    let made = copy_made g c.args.first a e s.cells c.in_ok-groups-in-Struct.groups (layout_at (layouts (structs_of types)) s.number).cells c.deref-in-Struct-6.result.now counted c.args.to c.args.free from beside c.in_ok-at-in-Struct.at m m₁ m₂ behind_is found_is counted_is many_is at_is c.in_ok-put_copy-in-Struct.ensures c.in_ok-next-in-Struct.ensures value_is in
+    let walked = ap (λ (x : Place). make_place g c.args.first (place_of types x) c.args.free m₂) c.deref-in-Struct-8.ensures in
     let whole = struct_made g c.args.first types c.args.expression.now w.access w.place w.value s.number s.cells c.args.to c.args.free m w.is s.is in
     subst (λ (z : Made). OnOk c.lower_place-in-Struct.result (c.lower_place-in-Struct.new.code ≡ z)) (walked ∙ made ∙ whole) c.lower_place-in-Struct.ensures
 
