@@ -45,7 +45,7 @@ all_of_one : {X : Type 0} (P : X → Type 0) (x : X) → P x → All P (x ∷ []
 all_of_one P x h zero d less = h
 all_of_one P x h (suc k) d less = absurd (omega (arith, less))
 
-all_of_two : {X : Type 0} (P : X → Type 0) (x y : X) → P x → P y → All P (x ∷ y ∷ [])
+pub all_of_two : {X : Type 0} (P : X → Type 0) (x y : X) → P x → P y → All P (x ∷ y ∷ [])
 all_of_two P x y h i zero d less = h
 all_of_two P x y h i (suc zero) d less = i
 all_of_two P x y h i (suc (suc k)) d less = absurd (omega (arith, less))

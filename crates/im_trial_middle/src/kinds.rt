@@ -1,4 +1,4 @@
-use crate::{assembling, folding, forcing, frames, losses, placing, recutting, selecting, statics};
+use crate::{assembling, forcing, frames, losses, placing, recutting, selecting, statics};
 use im_trial::{Case, Kinds, Row, Stop, Texts};
 
 /// Cases of what each pass makes of code.
@@ -12,11 +12,8 @@ impl Kinds for Middle {
             "frame" => frames::objects_lie_behind_slots(case),
             "statics" => statics::statics_lie_apart(case),
             "assemble" => assembling::a_program_is_linked(case),
-            "operate" => folding::operators_take_constants(case),
-            "compare" => folding::comparisons_take_constants(case),
-            "over" => folding::others_have_lines(case),
             "chain" => assembling::a_chain_takes_no_word(case),
-            "place" => placing::a_unit_is_placed(case),
+            "place" => placing::place_code(row, case),
             "select" => selecting::select_code(row, case),
             "losses" => losses::power_fails(case),
             _ => case.end(Stop::Row),

@@ -1,21 +1,22 @@
 ghost use Rattle.std.specs.Prelude.{◌≡◌, ◌≢◌, ◌⊎◌, ◌<◌, ◌≤◌, true, length, All};
 ghost use Rattle.im_num.specs.declared.kind.Kind.TheVariants.{Ptr};
-ghost use Rattle.im_alloc_placed.specs.Operands.{HasObject, IsHome, IsPromoted, PlaceAtHome, PlaceExists};
+ghost use Rattle.im_alloc_placed.specs.Operands.{HasObject, IsHome, IsPromoted};
+ghost use Rattle.im_alloc_placed.specs.Operands.{PlaceAtHome, PlaceExists};
 ghost use Rattle.im_alloc_placed.specs.Placed.{IsPlacedBlock, IsPlacedExit, IsPlacedLine};
 ghost use Rattle.im_block.specs.Wellformed.{ExitThere};
 ghost use Rattle.im_select.specs.Given.{given};
 ghost use Rattle.im_select.specs.Places.{CallsBelow};
 ghost use Rattle.im_select.specs.Selects.{IsClosedBlock};
 
-use im_block::{Block, Exit, Line, Place};
+use im_block::{Block, Exit, Function, Line, Place};
 use im_num::Kind;
 use im_select::Names;
 
 /// The greatest offset of a place in its object, in bytes.
-const GREATEST_OFFSET: u32 = 0x20_0000;
+pub(crate) const GREATEST_OFFSET: u32 = 0x20_0000;
 
 /// Sizes of elements, in bytes, are less.
-const SIZES: u32 = 0x8000_0000;
+pub(crate) const SIZES: u32 = 0x8000_0000;
 
 /// The register of a function's first argument and of its result.
 const FIRST: u32 = 10;
@@ -26,7 +27,7 @@ fn is_home(register: u32) -> bool
     6 < register && register < 32
 }
 
-fn is_promoted(kind: Kind) -> bool
+pub(crate) fn is_promoted(kind: Kind) -> bool
     ensures { result ≡ true → IsPromoted kind }
 {
     match kind {
@@ -37,7 +38,7 @@ fn is_promoted(kind: Kind) -> bool
 }
 
 /// Whether values of a kind are compared: promoted ones and pointers.
-fn is_compared(kind: Kind) -> bool
+pub(crate) fn is_compared(kind: Kind) -> bool
     ensures { result ≡ true → IsPromoted kind ⊎ (kind ≡ Ptr) }
 {
     match kind {
@@ -48,7 +49,7 @@ fn is_compared(kind: Kind) -> bool
     }
 }
 
-fn is_integer(kind: Kind) -> bool
+pub(crate) fn is_integer(kind: Kind) -> bool
     ensures { result ≡ true → kind ≢ Ptr }
 {
     match kind {
@@ -62,11 +63,11 @@ fn is_integer(kind: Kind) -> bool
     }
 }
 
-fn is_object(names: &Names, number: u32) -> bool
-    ensures { result ≡ true → HasObject names.now.function.now number }
+pub(crate) fn is_object(function: &Function, number: u32) -> bool
+    ensures { result ≡ true → HasObject function.now number }
 {
-    let first = names.function.first_object;
-    first <= number && ((number - first) as usize) < names.function.objects.len()
+    let first = function.first_object;
+    first <= number && ((number - first) as usize) < function.objects.len()
 }
 
 fn is_place(names: &Names, place: Place) -> bool
@@ -78,7 +79,9 @@ fn is_place(names: &Names, place: Place) -> bool
         Place::Static { object, offset } => {
             (object as usize) < names.statics.len() && offset <= GREATEST_OFFSET
         }
-        Place::Local { object, offset } => { is_object(names, object) && offset <= GREATEST_OFFSET }
+        Place::Local { object, offset } => {
+            is_object(names.function, object) && offset <= GREATEST_OFFSET
+        }
         Place::Through { pointer, offset } => is_home(pointer) && offset <= GREATEST_OFFSET,
     }
 }

@@ -1,56 +1,86 @@
 ghost use Rattle.std.specs.Prelude.{IfOk};
 ghost use Rattle.im_alloc.specs.Sample.{IsTaken};
+ghost use Rattle.im_trial_middle.specs.Unplaced.{IsFirst, IsSecond};
 
 use crate::fault::{Fault, taken};
+use crate::spelling::blocks_of;
+use crate::unplaced::is_open;
 use im_alloc::place;
-use im_block::{Block, Exit, Function, Line, Object, Place, Registers, Unit};
-use im_num::Kind;
-use im_trial::Case;
+use im_block::{Block, Exit, Function, Object, Registers, Unit};
+use im_trial::{Case, Row};
 use std::alloc::Global;
 
-// `int main(void) { int n; return n; }`, whose read is access 5.
-fn sample(alloc: Global) -> Result<Unit, Fault>
-    ensures { IfOk result (λ unit. IsTaken unit) }
+/// More blocks than a row has.
+const MOST_BLOCKS: usize = 1000;
+
+// A function of these blocks that begins with the last, with an object of 4 bytes.
+fn first(alloc: Global, blocks: Vec<Block>) -> Result<Function, Fault>
+    ensures { IfOk result IsFirst }
 {
-    let lines = vec![in alloc;
-        Line::Read {
-            to: 0,
-            place: Place::Local {
-                object: 0,
-                offset: 0
-            },
-            kind: Kind::I32,
-            access: 5,
-        },
-    ]?;
-    let exit = Exit::Return(Some(0));
-    let blocks = vec![in alloc; Block { lines, exit }]?;
-    let cells = Vec::new(alloc);
-    let objects = vec![in alloc; Object { size: 4, cells }]?;
-    let functions = vec![in alloc;
-        Function {
-            nodes: 4,
-            need: 100,
-            registers: Registers::Virtual,
-            register_count: 1,
-            parameters: 0,
-            first_parameter: 0,
-            first_object: 0,
-            objects,
-            slots: 0,
-            blocks,
-            entry: 0,
-        },
-    ]?;
+    let count = blocks.len();
+    if count == 0 || count > MOST_BLOCKS {
+        return Err(Fault::Refused);
+    }
+    let object = Object {
+        size: 4,
+        cells: Vec::new(alloc),
+    };
+    let objects = vec![in alloc; object]?;
+    Ok(Function {
+        nodes: 1,
+        need: 1000,
+        registers: Registers::Virtual,
+        register_count: 32,
+        parameters: 0,
+        first_parameter: 0,
+        first_object: 0,
+        objects,
+        slots: 0,
+        blocks,
+        entry: (count - 1) as u32,
+    })
+}
+
+// `void second(int a, int b) { }`.
+fn second(alloc: Global) -> Result<Function, Fault>
+    ensures { IfOk result IsSecond }
+{
+    let block = Block {
+        lines: Vec::new(alloc),
+        exit: Exit::Return(None),
+    };
+    Ok(Function {
+        nodes: 1,
+        need: 100,
+        registers: Registers::Virtual,
+        register_count: 2,
+        parameters: 2,
+        first_parameter: 0,
+        first_object: 1,
+        objects: Vec::new(alloc),
+        slots: 0,
+        blocks: vec![in alloc; block]?,
+        entry: 0,
+    })
+}
+
+// A function of these blocks, as `main`, beside one that takes two arguments.
+fn unit_of(alloc: Global, blocks: Vec<Block>) -> Result<Unit, Fault>
+    ensures { IfOk result IsTaken }
+{
+    let function = first(alloc, blocks)?;
+    if !is_open(&function) {
+        return Err(Fault::Refused);
+    }
     Ok(Unit {
         statics: Vec::new(alloc),
-        functions,
+        functions: vec![in alloc; function, second(alloc)?]?,
         main: 0,
     })
 }
 
-fn placed(alloc: Global) -> Result<Unit, Fault> {
-    let unit = sample(alloc)?;
+fn placed(alloc: Global, blocks: Vec<Block>) -> Result<Unit, Fault> {
+    let unit = unit_of(alloc, blocks)?;
     let unit = place(alloc, unit)?;
     Ok(unit)
 }
@@ -75,12 +105,18 @@ fn tell_function(function: &Function, case: &mut Case) {
     }
 }
 
-/// How many slots each function of a unit has that is placed, whose its registers are, and its
-/// lines and exits.
-pub(crate) fn a_unit_is_placed(case: &mut Case) {
-    let alloc = case.alloc;
-    if let Some(unit) = taken(placed(alloc), case) {
-        for function in &unit.functions {
+/// `place`, a name, and below it the lines of a function's blocks: how many slots it has that is
+/// placed, whose its registers are, and its lines and exits.
+pub(crate) fn place_code(row: &Row<'_>, case: &mut Case) {
+    let read = blocks_of(row.below(), case);
+    let Some(blocks) = case.take(read) else {
+        return;
+    };
+    if case.stop.is_some() {
+        return;
+    }
+    if let Some(unit) = taken(placed(case.alloc, blocks), case) {
+        if let Some(function) = unit.functions.first() {
             tell_function(function, case);
         }
     }

@@ -3,7 +3,7 @@ use im_block::{Block, Exit, Line, Place};
 use im_trial::{Case, Stop};
 use std::mem;
 
-/// A place: `static`, `local` or `through`, and the object or the pointer's register, and an offset.
+/// A place: `static`, `local` or `through`, the object or the pointer's register, and an offset.
 fn place_of(left: &mut Left<'_>, case: &mut Case) -> Place {
     let form = left.word();
     let base = left.small(case);
@@ -110,23 +110,23 @@ fn access(form: &str, left: &mut Left<'_>, case: &mut Case) -> Option<Line> {
             to: number,
             place: place_of(left, case),
             kind: left.kind(case),
-            access: 0,
+            access: left.access(),
         }),
         "write" => Some(Line::Write {
             from: number,
             place: place_of(left, case),
             kind: left.kind(case),
-            access: 0,
+            access: left.access(),
         }),
         "reload" => Some(Line::Reload {
             to: number,
             slot: left.small(case),
-            access: 0,
+            access: left.access(),
         }),
         "spill" => Some(Line::Spill {
             from: number,
             slot: left.small(case),
-            access: 0,
+            access: left.access(),
         }),
         _ => None,
     }
@@ -141,6 +141,11 @@ fn passing(form: &str, left: &mut Left<'_>, case: &mut Case) -> Option<Line> {
             function: left.small(case),
             first: left.small(case),
             count: left.small(case),
+        }),
+        "serve" => Some(Line::Serve {
+            to: left.small(case),
+            service: left.service(case),
+            from: left.register_left(case),
         }),
         _ => None,
     }
@@ -174,10 +179,9 @@ fn exit_of(form: &str, left: &mut Left<'_>, case: &mut Case) -> Option<Exit> {
 fn take_line(
     blocks: &mut Vec<Block>,
     lines: &mut Vec<Line>,
-    text: &str,
+    mut left: Left<'_>,
     case: &mut Case,
 ) -> Result<(), Stop> {
-    let mut left = Left::new(text);
     let form = left.word();
     if let Some(exit) = exit_of(form, &mut left, case) {
         let lines = mem::replace(lines, Vec::new(case.alloc));
@@ -191,13 +195,18 @@ fn take_line(
     Ok(())
 }
 
-/// The blocks of a text of lines, each of which ends at its exit, from block 0 on. Every access is
-/// number 0.
+/// The blocks of a text of lines, each of which ends at its exit, from block 0 on. An access has the
+/// number of its line, from 0 on.
 pub(crate) fn blocks_of(text: &str, case: &mut Case) -> Result<Vec<Block>, Stop> {
     let mut blocks = Vec::new(case.alloc);
     let mut lines = Vec::new(case.alloc);
-    for line in text.lines() {
-        take_line(&mut blocks, &mut lines, line, case)?;
+    for (number, line) in text.lines().enumerate() {
+        take_line(
+            &mut blocks,
+            &mut lines,
+            Left::new(line, number as u64),
+            case,
+        )?;
     }
     if lines.is_empty() {
         Ok(blocks)

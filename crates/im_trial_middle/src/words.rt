@@ -1,4 +1,5 @@
 use im_num::{Cause, Kind};
+use im_serve::Service;
 use im_store::{BinaryOp, Comparison, UnaryOp};
 use im_trial::{Case, Stop};
 
@@ -7,11 +8,17 @@ use im_trial::{Case, Stop};
 #[derive(Drop)]
 pub(crate) struct Left<'a> {
     text: &'a str,
+    /// The number of an access in the line.
+    access: u64,
 }
 
 impl<'a> Left<'a> {
-    pub(crate) fn new(text: &'a str) -> Left<'a> {
-        Left { text }
+    pub(crate) fn new(text: &'a str, access: u64) -> Left<'a> {
+        Left { text, access }
+    }
+
+    pub(crate) fn access(&self) -> u64 {
+        self.access
     }
 
     /// The next word, and nothing behind the last.
@@ -33,6 +40,14 @@ impl<'a> Left<'a> {
     pub(crate) fn small(&mut self, case: &mut Case) -> u32 {
         let word = self.word();
         case.small(word)
+    }
+
+    /// A register, and none behind the last word.
+    pub(crate) fn register_left(&mut self, case: &mut Case) -> Option<u32> {
+        if self.text.is_empty() {
+            return None;
+        }
+        Some(self.small(case))
     }
 
     /// A number, maybe with a sign.
@@ -109,6 +124,17 @@ impl<'a> Left<'a> {
             _ => {
                 case.end(Stop::Row);
                 Cause::Return
+            }
+        }
+    }
+
+    pub(crate) fn service(&mut self, case: &mut Case) -> Service {
+        match self.word() {
+            "Getchar" => Service::Getchar,
+            "Putchar" => Service::Putchar,
+            _ => {
+                case.end(Stop::Row);
+                Service::Getchar
             }
         }
     }
