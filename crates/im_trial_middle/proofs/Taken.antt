@@ -1,5 +1,5 @@
 -- A unit of two functions, of which the first has the lines of a row: placing takes it.
-use Rattle.std.proofs.Common.{◌≡◌, ◌<◌, ◌≤◌, ℕ, zero, suc, ◌+◌, List, [], ◌∷◌, ◌++◌, length, take, None, Some, sym, subst, arith}
+use Rattle.std.proofs.Common.{◌≡◌, ℕ, zero, suc, ◌+◌, List, [], ◌∷◌, ◌++◌, length, take, None, Some, sym, subst, arith}
 use Rattle.std.specs.Prelude.{slice_get, All}
 use Rattle.std.proofs.lemmas.List.Elements.{All-nil, All-weaker}
 use Rattle.im_block.specs.declared.code.Place.{Place}
@@ -36,10 +36,10 @@ line_from (Copy to from) = (omega arith, omega arith)
 line_from (Convert to kind from) = (omega arith, omega arith)
 line_from (Unary to op kind from) = (omega arith, omega arith)
 line_from (Not to from) = (omega arith, omega arith)
-line_from (Compute to op kind left right) = (omega arith, (omega arith, omega arith))
-line_from (Compare to op kind left right) = (omega arith, (omega arith, omega arith))
-line_from (Move to size back pointer by) = (omega arith, (omega arith, omega arith))
-line_from (Distance to size left right) = (omega arith, (omega arith, omega arith))
+line_from (Compute to op kind left right) = (omega arith, omega arith, omega arith)
+line_from (Compare to op kind left right) = (omega arith, omega arith, omega arith)
+line_from (Move to size back pointer by) = (omega arith, omega arith, omega arith)
+line_from (Distance to size left right) = (omega arith, omega arith, omega arith)
 line_from (Address to place) = (omega arith, place_from place)
 line_from (Read to place kind access) = (omega arith, place_from place)
 line_from (Write place kind from access) = (place_from place, omega arith)

@@ -84,8 +84,8 @@ fn is_comparison(to: u32, kind: Kind, left: u32, right: u32) -> bool
     are_three_registers(to, left, right) && is_compared(kind)
 }
 
-/// A distance in elements of so many bytes.
-fn is_distance(size: u32, to: u32, left: u32, right: u32) -> bool
+/// A move by elements of so many bytes, or a distance in them.
+fn is_sized(size: u32, to: u32, left: u32, right: u32) -> bool
     ensures within { result ≡ true → (to < 32) × (left < 32) × (right < 32) }
     ensures some { result ≡ true → 0 < size }
     ensures small { result ≡ true → size < 2147483648 }
@@ -164,16 +164,17 @@ fn is_line(function: &Function, line: &Line) -> bool
         } => is_comparison(to, kind, left, right),
         Line::Move {
             to,
+            size,
             pointer,
             by,
             ..
-        } => are_three_registers(to, pointer, by),
+        } => is_sized(size, to, pointer, by),
         Line::Distance {
             to,
             size,
             left,
             right,
-        } => is_distance(size, to, left, right),
+        } => is_sized(size, to, left, right),
         Line::Address { to, place } => is_access(function, to, place),
         Line::Read { to, place, .. } => is_access(function, to, place),
         Line::Write { place, from, .. } => is_access(function, from, place),

@@ -1,4 +1,4 @@
-use Rattle.std.proofs.Common.{◌≡◌, [], length, sym, ap, ◌∙◌, subst, arith}
+use Rattle.std.proofs.Common.{◌≡◌, length, sym, ap, ◌∙◌, arith}
 use Rattle.im_select_assemble.proofs.One.{layouts_of}
 use Rattle.im_trial_middle.proofs.assembling.linked.Goals as goal
 

@@ -1,9 +1,9 @@
 use Rattle.std.proofs.Common.{◌≡◌, List, length, map, sym, ap, ◌∙◌, subst}
-use Rattle.im_mem.specs.Map.{statics_start, statics_capacity}
+use Rattle.im_mem.specs.Map.{statics_start}
 use Rattle.im_block.specs.declared.unit.Static.{Static as StaticOf}
 use Rattle.im_block.specs.declared.unit.Function.{Function}
 use Rattle.im_block.specs.Meaning.{static_of}
-use Rattle.im_frame.specs.Layout.{places_from, rooms}
+use Rattle.im_frame.specs.Layout.{places_from}
 use Rattle.im_select_addresses.specs.Addresses.{AreLayouts}
 use Rattle.im_select_addresses.specs.Statics.{objects_of}
 use Rattle.im_pack.specs.Packed.{AreNamable}

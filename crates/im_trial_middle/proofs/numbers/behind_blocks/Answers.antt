@@ -1,4 +1,6 @@
-use Rattle.std.proofs.Common.{◌<◌, ◌≤◌, length, arith}
+use Rattle.std.proofs.Common.{◌<◌, ◌≤◌, length, subst, arith}
+use Rattle.im_block.specs.Wellformed.{accesses_of_lines}
+use Rattle.im_trial_middle.specs.Unplaced.{Leads}
 use Rattle.im_trial_middle.proofs.Rising.{blocks_step, blocks_end}
 use Rattle.im_trial_middle.proofs.numbers.behind_blocks.Goals as goal
 
@@ -7,7 +9,8 @@ loop-block-preserved c m rest =
     let blocks = c.args.blocks.now in
     let i = c.loop-block.block-index in
     let within : i < length blocks = omega arith in
-    c.loop-block.invariant m (blocks_step c.loop-block.next c.in_some-behind_lines.field-0 blocks i c.block-item.result within c.block-item.is c.in_some-behind_lines.ensures m rest)
+    let one = subst (λ lines. Leads c.loop-block.next (accesses_of_lines lines) c.in_ok-next.next) c.deref.ensures.value c.in_ok-next.ensures in
+    c.loop-block.invariant m (blocks_step c.loop-block.next c.in_ok-next.next blocks i c.block-item.result within c.block-item.is one m rest)
 
 pub returns : goal.returns
 returns c =

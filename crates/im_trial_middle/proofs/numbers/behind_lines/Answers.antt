@@ -10,7 +10,7 @@ blank = Put 0 (pos 0)
 
 pub loop-line-preserved : goal.loop-line-preserved
 loop-line-preserved c m rest =
-    c.loop-line.invariant m (lines_step c.loop-line.next c.in_some-behind_line.field-0 c.args.lines.now c.loop-line.line-index blank c.loop-line-test.true c.in_some-behind_line.ensures m rest)
+    c.loop-line.invariant m (lines_step c.loop-line.next _ c.args.lines.now c.loop-line.line-index blank c.loop-line-test.true c.in_ok-next.ensures m rest)
 
 pub returns : goal.returns
 returns c =

@@ -9,5 +9,5 @@ abbrev pub invariant-loop-line : goal.invariant-loop-line
 invariant-loop-line l = record {
   within : All (LineWithin 32) (take l.line-index l.lines);
   calls : All CallsSecond (take l.line-index l.lines);
-  placeable : All (IsPlaceableLine 0 l.function.now) (take l.line-index l.lines);
+  placeable : All (IsPlaceableLine 0 l.function) (take l.line-index l.lines);
 }

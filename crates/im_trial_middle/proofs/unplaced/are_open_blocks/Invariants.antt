@@ -4,4 +4,4 @@ use Rattle.im_trial_middle.specs.Unplaced.{IsOpenBlock}
 use Rattle.im_trial_middle.proofs.unplaced.are_open_blocks.Given as goal
 
 abbrev pub invariant-loop-block : goal.invariant-loop-block
-invariant-loop-block l = All (IsOpenBlock l.function.now) (take l.block-index l.blocks)
+invariant-loop-block l = All (IsOpenBlock l.function) (take l.block-index l.blocks)
