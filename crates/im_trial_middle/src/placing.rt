@@ -3,15 +3,13 @@ ghost use Rattle.im_alloc.specs.Sample.{IsTaken};
 ghost use Rattle.im_trial_middle.specs.Unplaced.{IsFirst, IsSecond};
 
 use crate::fault::{Fault, taken};
+use crate::selecting::MOST_BLOCKS;
 use crate::spelling::blocks_of;
 use crate::unplaced::is_open;
 use im_alloc::place;
 use im_block::{Block, Exit, Function, Object, Registers, Unit};
 use im_trial::{Case, Row};
 use std::alloc::Global;
-
-/// More blocks than a row has.
-const MOST_BLOCKS: usize = 1000;
 
 // A function of these blocks that begins with the last, with an object of 4 bytes.
 fn first(alloc: Global, blocks: Vec<Block>) -> Result<Function, Fault>

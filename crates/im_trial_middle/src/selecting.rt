@@ -16,7 +16,7 @@ use im_trial::{Case, Row};
 use std::alloc::Global;
 
 /// More blocks than a row has.
-const MOST_BLOCKS: usize = 1000;
+pub(crate) const MOST_BLOCKS: usize = 1000;
 
 /// The lines that test the stack and make the frame; their words are those of the row of kind
 /// `assemble`.

@@ -195,8 +195,8 @@ fn take_line(
     Ok(())
 }
 
-/// The blocks of a text of lines, each of which ends at its exit, from block 0 on. An access has the
-/// number of its line, from 0 on.
+/// The blocks of a text of lines, each of which ends at its exit, from block 0 on. An access has
+/// the number of its line, from 0 on.
 pub(crate) fn blocks_of(text: &str, case: &mut Case) -> Result<Vec<Block>, Stop> {
     let mut blocks = Vec::new(case.alloc);
     let mut lines = Vec::new(case.alloc);
