@@ -6,7 +6,7 @@ ghost use Rattle.im_block.specs.Wellformed.{LineWithin, PlaceWithin};
 use crate::set::ObjectSet;
 use crate::table::RegisterSets;
 use im_block::{Line, Place, Tag};
-use im_num::NoMemory;
+use im_num::{NoMemory, beyond_memory};
 use std::alloc::Global;
 
 /// An access, and where its tag stands among the tags.
@@ -121,7 +121,7 @@ impl Found {
         ensures { IfOk result (λ k. FindsTag k (λ found. found ≡ Some tag) self.old self.new) }
     {
         let Ok(place) = u32::try_from(self.tags.len()) else {
-            return Err(NoMemory::OutOfMemory);
+            return Err(beyond_memory());
         };
         self.tags.push(tag)?;
         Ok(place)

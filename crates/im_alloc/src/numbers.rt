@@ -2,7 +2,7 @@ ghost use Rattle.std.specs.Prelude.{◌≡◌, ◌<◌, ◌+◌, ◌^◌, IfOk};
 ghost use Rattle.im_alloc.specs.Numbers.{past_line, past_lines, past_blocks, past_functions};
 
 use im_block::{Block, Function, Line};
-use im_num::NoMemory;
+use im_num::{NoMemory, beyond_memory};
 
 /// The number behind those that a line keeps. Numbers that pass 64 bits count as want of memory: so
 /// many lines have no room.
@@ -11,7 +11,7 @@ pub(crate) fn behind(number: u64) -> Result<u64, NoMemory>
 {
     match number.checked_add(16) {
         Some(next) => Ok(next),
-        None => Err(NoMemory::OutOfMemory),
+        None => Err(beyond_memory()),
     }
 }
 
@@ -29,7 +29,7 @@ fn past(number: u64, line: Line) -> Result<u64, NoMemory>
             }
             match access.checked_add(1) {
                 Some(next) => Ok(next),
-                None => Err(NoMemory::OutOfMemory),
+                None => Err(beyond_memory()),
             }
         }
         _ => Ok(number),

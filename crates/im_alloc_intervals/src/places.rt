@@ -2,7 +2,7 @@ ghost use Rattle.std.specs.Prelude.{◌≡◌, ◌<◌, ◌+◌, ◌^◌, IfOk, 
 ghost use Rattle.im_alloc_intervals.specs.Tables.{ArePlaces};
 
 use im_block::{Block, Line};
-use im_num::NoMemory;
+use im_num::{NoMemory, beyond_memory};
 use std::alloc::Global;
 
 /// The position behind a block's exit. Positions that pass 64 bits count as want of memory: so many
@@ -13,7 +13,7 @@ fn behind(start: u64, lines: &[Line]) -> Result<u64, NoMemory>
 {
     match start.checked_add(lines.len() as u64 + 1) {
         Some(next) => Ok(next),
-        None => Err(NoMemory::OutOfMemory),
+        None => Err(beyond_memory()),
     }
 }
 

@@ -10,7 +10,7 @@ ghost use Rattle.im_check.specs.Counts.{IsOverParameters, IsOverStatics, IsToldO
 use crate::fault::CheckFault;
 use im_check_counts::{Crowded, Head, first_crowded};
 use im_check_scopes::Scope;
-use im_num::NoMemory;
+use im_num::{NoMemory, beyond_memory};
 use im_typed::{Prog, Static};
 use std::alloc::Global;
 
@@ -53,7 +53,7 @@ fn bytes_of_statics(prog: &Prog) -> Result<u64, NoMemory>
     for s in &prog.statics {
         match total.checked_add(bytes_of(s)) {
             Some(sum) => total = sum,
-            None => return Err(NoMemory::OutOfMemory),
+            None => return Err(beyond_memory()),
         }
     }
     Ok(total)

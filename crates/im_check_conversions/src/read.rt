@@ -12,7 +12,7 @@ use crate::convert::of_variable;
 use crate::kinds::kind_in;
 use im_check_operands::{Term, Value};
 use im_ctype::TypeTable;
-use im_num::NoMemory;
+use im_num::{NoMemory, beyond_memory};
 use im_typed::{Access, Expr, Place};
 use im_types::{Type, struct_extent};
 use std::alloc::Global;
@@ -24,7 +24,7 @@ fn struct_access(table: &TypeTable, number: u32) -> Result<Access, NoMemory>
     let extent = struct_extent(table, number)?;
     match u32::try_from(extent.cells) {
         Ok(cells) => Ok(Access::Struct { number, cells }),
-        Err(_) => Err(NoMemory::OutOfMemory),
+        Err(_) => Err(beyond_memory()),
     }
 }
 

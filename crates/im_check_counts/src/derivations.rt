@@ -10,7 +10,7 @@ use im_check_outline::{is_typedef, name_of, typedef_in};
 use im_ctree::{
     Core, Declaration, Declarator, External, InitDeclarator, Specifier, Star, Suffix, Tree,
 };
-use im_num::NoMemory;
+use im_num::{NoMemory, beyond_memory};
 use std::alloc::Global;
 
 /// The most derivations that a typedef name may stand for.
@@ -31,7 +31,7 @@ fn sum(first: usize, second: usize) -> Result<usize, NoMemory>
 {
     match first.checked_add(second) {
         Some(sum) => Ok(sum),
-        None => Err(NoMemory::OutOfMemory),
+        None => Err(beyond_memory()),
     }
 }
 

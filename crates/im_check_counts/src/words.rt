@@ -10,7 +10,7 @@ ghost use Rattle.im_types.specs.Shape.{type_of, types_in};
 use im_check_conversions::kind_in;
 use im_check_scopes::{Entity, Scope};
 use im_ctype::bytes_of_kind;
-use im_num::{Kind, NoMemory};
+use im_num::{Kind, NoMemory, beyond_memory};
 use im_types::Type;
 
 /// The words of 4 bytes that hold a value of that kind.
@@ -26,7 +26,7 @@ fn sum(first: u64, second: u64) -> Result<u64, NoMemory>
 {
     match first.checked_add(second) {
         Some(n) => Ok(n),
-        None => Err(NoMemory::OutOfMemory),
+        None => Err(beyond_memory()),
     }
 }
 

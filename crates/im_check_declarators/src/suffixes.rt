@@ -24,7 +24,7 @@ use im_check_stop::{Stop, refused};
 use im_check_type_specifiers::Qualified;
 use im_ctree::{Expression, Parameter, Suffix, SuffixKind};
 use im_ctype::TypeTable;
-use im_num::NoMemory;
+use im_num::{NoMemory, beyond_memory};
 use im_types::{Type, array_of, is_complete, unsized_of};
 use std::alloc::Global;
 
@@ -54,7 +54,7 @@ fn is_within(table: &TypeTable, ty: &Type) -> Result<(), NoMemory>
 {
     match fits(table, ty) {
         Ok(_) => Ok(()),
-        Err(_) => Err(NoMemory::OutOfMemory),
+        Err(_) => Err(beyond_memory()),
     }
 }
 
@@ -75,7 +75,7 @@ fn counted(table: &TypeTable, at: u32, value: Option<i128>, ty: &Type) -> Result
     element(table.struct_count(), at, ty)?;
     match long(count) {
         Ok(number) => Ok(number),
-        Err(_) => Err(Stop::Memory),
+        Err(fault) => Err(Stop::from(fault)),
     }
 }
 
@@ -85,7 +85,7 @@ fn long(count: i128) -> Result<u64, NoMemory>
 {
     match u64::try_from(count) {
         Ok(number) => Ok(number),
-        Err(_) => Err(NoMemory::OutOfMemory),
+        Err(_) => Err(beyond_memory()),
     }
 }
 

@@ -21,6 +21,7 @@ use im_check_place::Place;
 use im_check_stop::Stop;
 use im_check_type_specifiers::{mention, specified_type};
 use im_ctree::{Declarator, Parameter};
+use im_num::beyond_memory;
 use std::alloc::Global;
 
 /// The parameters of a function, as they are declared in a scope of their own, which ends with
@@ -68,7 +69,7 @@ pub fn parameters_here(
         let declared = parameter_here(alloc, number, one, place)?;
         done.push(declared)?;
         let Some(next) = number.checked_add(1) else {
-            return Err(Stop::Memory);
+            return Err(Stop::from(beyond_memory()));
         };
         number = next;
     }

@@ -14,6 +14,7 @@ use im_check_file_place::File;
 use im_check_statements::body;
 use im_check_stop::Stop;
 use im_ctree::{BlockItem, Parameter};
+use im_num::beyond_memory;
 use std::alloc::Global;
 
 /// The function of that head with this body. `formals` are its parameters, as `written` declares
@@ -40,7 +41,7 @@ pub(crate) fn with_body(
     let body = body(alloc, items, &mut inside)?;
     let objects = ended(mark, inside, file);
     if !are_complete(file.place.structs.count(), &objects) {
-        return Err(Stop::Memory);
+        return Err(Stop::from(beyond_memory()));
     }
     Ok(Defined {
         name,

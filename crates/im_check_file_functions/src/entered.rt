@@ -13,7 +13,7 @@ use im_check_place::Place;
 use im_check_scopes::{Entity, Scope, Storage};
 use im_check_type_specifiers::mention;
 use im_ctree::Parameter;
-use im_num::NoMemory;
+use im_num::{NoMemory, beyond_memory};
 use im_types::copy;
 use std::alloc::Global;
 
@@ -40,7 +40,7 @@ pub(crate) fn number_of(place: usize) -> Result<u32, NoMemory>
 {
     match u32::try_from(place) {
         Ok(number) => Ok(number),
-        Err(_) => Err(NoMemory::OutOfMemory),
+        Err(_) => Err(beyond_memory()),
     }
 }
 

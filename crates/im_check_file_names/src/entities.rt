@@ -13,7 +13,7 @@ use im_check_name_map::NameList;
 use im_check_outline::{UnitOutline, is_typedef};
 use im_check_scopes::{Callee, Entity, Storage};
 use im_ctree::Specifier;
-use im_num::NoMemory;
+use im_num::{NoMemory, beyond_memory};
 use im_serve::Service;
 use im_types::{Type, copy, is_function};
 use std::alloc::Global;
@@ -23,7 +23,7 @@ fn number_in(name: &[u8], names: &NameList) -> Result<u32, NoMemory>
 {
     match u32::try_from(names.place(name)) {
         Ok(number) => Ok(number),
-        Err(_) => Err(NoMemory::OutOfMemory),
+        Err(_) => Err(beyond_memory()),
     }
 }
 

@@ -9,7 +9,7 @@ use im_check_name_map::NameList;
 use im_check_outline::outline;
 use im_check_place::{Place, Structs};
 use im_ctree::Tree;
-use im_num::NoMemory;
+use im_num::{NoMemory, beyond_memory};
 use std::alloc::Global;
 
 /// What is known at a place at file scope: what is known at any place; the tags of which a member
@@ -31,7 +31,7 @@ impl File {
     {
         let outline = outline(alloc, tree)?;
         let Ok(next_string) = u32::try_from(outline.statics.len()) else {
-            return Err(NoMemory::OutOfMemory);
+            return Err(beyond_memory());
         };
         let scope = predeclared(alloc)?;
         let place = Place {

@@ -27,6 +27,7 @@ use im_check_stop::Stop;
 use im_check_type_specifiers::{Qualified, has_const};
 use im_ctree::{Member, Specifier, SpecifierKind, Specifiers};
 use im_ctype::Integer;
+use im_num::beyond_memory;
 use im_types::Type;
 use std::alloc::Global;
 
@@ -78,7 +79,7 @@ fn listed(alloc: Global, specifier: &Specifier, file: &mut File) -> Result<Type,
             enumeration(alloc, specifier.at, tag, written, file)?;
             Ok(Type::Integer(Integer::Int))
         }
-        _ => Err(Stop::Memory),
+        _ => Err(Stop::from(beyond_memory())),
     }
 }
 

@@ -5,7 +5,7 @@ ghost use Rattle.im_ctype.specs.Table.{structs_of};
 ghost use Rattle.im_types.specs.Shape.{type_of};
 
 use im_ctype::TypeTable;
-use im_num::NoMemory;
+use im_num::{NoMemory, beyond_memory};
 use im_types::{Type, struct_extent};
 
 fn product(first: u64, second: u64) -> Result<u64, NoMemory>
@@ -13,7 +13,7 @@ fn product(first: u64, second: u64) -> Result<u64, NoMemory>
 {
     match first.checked_mul(second) {
         Some(n) => Ok(n),
-        None => Err(NoMemory::OutOfMemory),
+        None => Err(beyond_memory()),
     }
 }
 
@@ -23,7 +23,7 @@ pub(crate) fn narrow(count: u64) -> Result<u32, NoMemory>
 {
     match u32::try_from(count) {
         Ok(n) => Ok(n),
-        Err(_) => Err(NoMemory::OutOfMemory),
+        Err(_) => Err(beyond_memory()),
     }
 }
 

@@ -6,7 +6,7 @@ ghost use Rattle.im_types.specs.Shape.{type_of};
 ghost use Rattle.im_check_initialisers.specs.Forms.{IsMember};
 
 use im_ctype::TypeTable;
-use im_num::NoMemory;
+use im_num::{NoMemory, beyond_memory};
 use im_types::{Type, type_from};
 use std::alloc::Global;
 
@@ -43,6 +43,6 @@ pub(crate) fn further(at: u64, by: u64) -> Result<u64, NoMemory>
 {
     match at.checked_add(by) {
         Some(k) => Ok(k),
-        None => Err(NoMemory::OutOfMemory),
+        None => Err(beyond_memory()),
     }
 }

@@ -23,6 +23,7 @@ use im_check_place::Place;
 use im_check_shapes::{Shape, shaped};
 use im_check_stop::Stop;
 use im_ctree::Initializer;
+use im_num::beyond_memory;
 use im_types::{Type, size};
 use std::alloc::Global;
 
@@ -51,7 +52,7 @@ pub fn initialised<'a>(
         Shape::Bytes(element, bytes) => Ok(push_bytes(alloc, at, element, bytes, items)?),
         Shape::Elements(element, _) => elements(alloc, element, at, items_of(i), place, items),
         Shape::Members(number, _) => members(alloc, number, at, items_of(i), place, items),
-        Shape::Misshapen => Err(Stop::Memory),
+        Shape::Misshapen => Err(Stop::from(beyond_memory())),
     }
 }
 

@@ -6,7 +6,7 @@ ghost use Rattle.im_types.specs.Shape.{type_of};
 ghost use Rattle.im_check_items.specs.Shape.{items_in};
 
 use crate::item::{Item, Source};
-use im_num::NoMemory;
+use im_num::{NoMemory, beyond_memory};
 use im_types::{Type, copy};
 use std::alloc::Global;
 
@@ -40,6 +40,6 @@ fn past(offset: u64) -> Result<u64, NoMemory>
 {
     match offset.checked_add(1) {
         Some(next) => Ok(next),
-        None => Err(NoMemory::OutOfMemory),
+        None => Err(beyond_memory()),
     }
 }

@@ -16,7 +16,7 @@ use crate::item::{Item, Source};
 use im_check_conversions::{access, as_type, kind_in, value_of};
 use im_check_operands::Term;
 use im_ctype::TypeTable;
-use im_num::{Kind, NoMemory, of_word};
+use im_num::{Kind, NoMemory, beyond_memory, of_word};
 use im_typed::{Expr, Piece};
 use im_types::Type;
 use std::alloc::Global;
@@ -63,7 +63,7 @@ pub fn piece_of(alloc: Global, table: &TypeTable, item: Item) -> Result<Piece, N
 {
     let Item { offset, ty, source } = item;
     let Ok(offset) = u32::try_from(offset) else {
-        return Err(NoMemory::OutOfMemory);
+        return Err(beyond_memory());
     };
     let access = access(table, &ty)?;
     let value = source_value(alloc, table, &ty, source)?;

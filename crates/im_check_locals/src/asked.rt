@@ -12,6 +12,7 @@ ghost use Rattle.im_check_locals.specs.Objects.{name_asks};
 
 use im_check_scopes::{Entity, Scope};
 use im_check_stop::{Stop, refused};
+use im_num::beyond_memory;
 use im_types::Type;
 
 fn is_here(scope: &Scope, name: &[u8]) -> bool
@@ -38,7 +39,7 @@ pub(crate) fn name_asked(scope: &Scope, at: u32, name: &[u8]) -> Result<(), Stop
 {
     if is_here(scope, name) {
         if scope.at_file_scope() {
-            return Err(Stop::Memory);
+            return Err(Stop::from(beyond_memory()));
         }
         return Err(refused(3, at));
     }

@@ -24,6 +24,7 @@ use im_check_sizes::all_fit;
 use im_check_stop::{Stop, refused};
 use im_check_type_specifiers::Qualified;
 use im_ctree::{InitDeclarator, Initializer, Name};
+use im_num::beyond_memory;
 use im_typed::Stmt;
 use im_types::{Type, copy, is_complete};
 use std::alloc::Global;
@@ -77,7 +78,7 @@ fn keep(alloc: Global, object: &Object, body: &mut Body) -> Result<u32, Stop>
     ensures { MatchResult result (IsKept body.old body.new object.now) IsNoRule }
 {
     let Ok(number) = u32::try_from(body.locals.len()) else {
-        return Err(Stop::Memory);
+        return Err(Stop::from(beyond_memory()));
     };
     let known = Vec::from_slice(alloc, &object.name)?;
     let meant = Entity::Object(

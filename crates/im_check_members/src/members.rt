@@ -16,7 +16,7 @@ use im_check_conversions::{access, of_variable, value_of};
 use im_check_operands::{Term, Value};
 use im_check_stop::{Stop, refused};
 use im_ctype::TypeTable;
-use im_num::NoMemory;
+use im_num::{NoMemory, beyond_memory};
 use im_typed::{Expr, Place};
 use im_types::{Type, is_array, type_from};
 use std::alloc::Global;
@@ -34,7 +34,7 @@ fn member_at(
         (type_at table.now found.ty) (p.Member (place_of table.now whole) found.place.offset)) }
 {
     let Ok(offset) = u32::try_from(found.place.offset) else {
-        return Err(NoMemory::OutOfMemory);
+        return Err(beyond_memory());
     };
     let ty = type_from(alloc, table, found.ty)?;
     let place = Place::Member(Box::new(alloc, whole)?, offset);
@@ -56,7 +56,7 @@ fn part_of(
     })) }
 {
     let Ok(from) = u32::try_from(first_cell) else {
-        return Err(NoMemory::OutOfMemory);
+        return Err(beyond_memory());
     };
     let access = access(table, &ty)?;
     let whole = Box::new(alloc, whole)?;
@@ -173,7 +173,7 @@ fn pointer_member(
             target_member(alloc, table, at, *constant, target, pointer, name)
         }
         // no value is an array (C11 6.3.2.1p3)
-        Type::Array(_, _) | Type::Unsized(_) => Err(Stop::Memory),
+        Type::Array(_, _) | Type::Unsized(_) => Err(Stop::from(beyond_memory())),
         Type::Void | Type::Integer(_) | Type::Struct(_) | Type::Function(_, _) => {
             Err(refused(21, at))
         }

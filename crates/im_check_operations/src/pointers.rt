@@ -12,7 +12,7 @@ ghost use Rattle.im_check_operands.specs.Shape.{value_in, term_in};
 use im_check_conversions::of_variable;
 use im_check_operands::{Term, Value};
 use im_ctype::{Integer, TypeTable};
-use im_num::NoMemory;
+use im_num::{NoMemory, beyond_memory};
 use im_typed::{Expr, Place};
 use im_types::{Type, pointer_to, size};
 use std::alloc::Global;
@@ -24,7 +24,7 @@ pub fn bytes_of(table: &TypeTable, ty: &Type) -> Result<u32, NoMemory>
     let bytes = size(table, ty)?;
     match u32::try_from(bytes) {
         Ok(n) => Ok(n),
-        Err(_) => Err(NoMemory::OutOfMemory),
+        Err(_) => Err(beyond_memory()),
     }
 }
 

@@ -6,7 +6,7 @@ ghost use Rattle.im_check_place.specs.Entered.{AreEntered, IsEntered};
 
 use crate::field::Field;
 use im_ctype::{Member, TypeTable, is_complete};
-use im_num::NoMemory;
+use im_num::{NoMemory, beyond_memory};
 use im_types::id_of;
 use std::alloc::Global;
 
@@ -18,7 +18,7 @@ fn entered_one(alloc: Global, table: &mut TypeTable, field: &Field) -> Result<Me
 {
     let ty = id_of(table, &field.ty)?;
     if !is_complete(ty, table) {
-        return Err(NoMemory::OutOfMemory);
+        return Err(beyond_memory());
     }
     let name = Vec::from_slice(alloc, &field.name)?;
     Ok(Member {

@@ -5,14 +5,14 @@ ghost use Rattle.im_ctype.specs.Layout as l;
 ghost use Rattle.im_ctype.specs.Table.{members_in, structs_of, types_of};
 
 use im_ctype::{Extent, Member, TypeTable};
-use im_num::NoMemory;
+use im_num::{NoMemory, beyond_memory};
 
 fn sum(first: u64, second: u64) -> Result<u64, NoMemory>
     ensures { IfOk result (λ n. n ≡ first + second) }
 {
     match first.checked_add(second) {
         Some(n) => Ok(n),
-        None => Err(NoMemory::OutOfMemory),
+        None => Err(beyond_memory()),
     }
 }
 
@@ -21,7 +21,7 @@ fn round_up(offset: u64, alignment: u64) -> Result<u64, NoMemory>
     ensures { IfOk result (λ n. n ≡ l.round_up offset alignment) }
 {
     if alignment == 0 {
-        return Err(NoMemory::OutOfMemory);
+        return Err(beyond_memory());
     }
     sum(offset, (alignment - offset % alignment) % alignment)
 }

@@ -4,7 +4,7 @@ ghost use Rattle.std.specs.Prelude.{◌≡◌, ◌+◌, OnOk, OnErr};
 use crate::structs::Structs;
 use im_check_outline::UnitOutline;
 use im_check_scopes::Scope;
-use im_num::NoMemory;
+use im_num::{NoMemory, beyond_memory};
 
 /// What is known at a place of the text: what names and tags mean, the structs whose member lists
 /// have ended, the number of the static that the next string literal is, and the unit's outline.
@@ -24,7 +24,7 @@ impl Place {
         ensures unchanged { OnErr result (self.new ≡ self.old) }
     {
         let Some(next) = self.next_string.checked_add(1) else {
-            return Err(NoMemory::OutOfMemory);
+            return Err(beyond_memory());
         };
         self.next_string = next;
         Ok(())

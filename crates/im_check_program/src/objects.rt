@@ -9,7 +9,7 @@ ghost use Rattle.im_check_program.specs.Known.{IsObjectOf, KnowObjects};
 
 use im_check_sites::Local;
 use im_ctype::TypeTable;
-use im_num::NoMemory;
+use im_num::{NoMemory, beyond_memory};
 use im_typed::Object;
 use im_types::{Type, id_of, size};
 use std::alloc::Global;
@@ -33,7 +33,7 @@ pub(crate) fn typed_object(
             ty: number,
             size,
         }),
-        Err(_) => Err(NoMemory::OutOfMemory),
+        Err(_) => Err(beyond_memory()),
     }
 }
 

@@ -19,7 +19,7 @@ use im_check_name_map::NameList;
 use im_check_place::Structs;
 use im_check_scopes::Scope;
 use im_ctype::TypeTable;
-use im_num::NoMemory;
+use im_num::{NoMemory, beyond_memory};
 use im_typed::{Prog, Static};
 use std::alloc::Global;
 use std::mem;
@@ -39,7 +39,7 @@ fn main_among(bodies: &NameList) -> Result<u32, NoMemory>
 {
     match u32::try_from(bodies.place(b"main")) {
         Ok(number) => Ok(number),
-        Err(_) => Err(NoMemory::OutOfMemory),
+        Err(_) => Err(beyond_memory()),
     }
 }
 

@@ -15,7 +15,7 @@ use im_check_defined::FirstValues;
 use im_check_name_map::NameList;
 use im_check_scopes::{Entity, Scope};
 use im_ctype::TypeTable;
-use im_num::NoMemory;
+use im_num::{NoMemory, beyond_memory};
 use im_typed::Static;
 use std::alloc::Global;
 
@@ -37,7 +37,7 @@ fn typed_static(
     ensures grown { OnOk result (IsGrown table.old table.new) }
 {
     let Some(Entity::Object(_, ty, _)) = scope.meaning(name) else {
-        return Err(NoMemory::OutOfMemory);
+        return Err(beyond_memory());
     };
     let cells = first_values(alloc, table, given, names, name, ty)?;
     let name = Vec::from_slice(alloc, name)?;
@@ -63,7 +63,7 @@ fn numbered_static(
     ensures grown { OnOk result (IsGrown table.old table.new) }
 {
     match statics.get(number) {
-        None => Err(NoMemory::OutOfMemory),
+        None => Err(beyond_memory()),
         Some(name) => typed_static(alloc, table, scope, given, names, name),
     }
 }

@@ -10,6 +10,7 @@ ghost use Rattle.im_check_statement_forms.specs.Labelling.{place_of};
 use crate::heads::ForHead;
 use crate::labels::{Labels, Selector};
 use im_check_stop::Stop;
+use im_num::beyond_memory;
 use im_typed::{Case, Expr, Stmt};
 use std::alloc::Global;
 
@@ -65,7 +66,7 @@ fn place_otherwise(otherwise: Option<u32>, block: &[Stmt]) -> Result<u32, Stop>
         Some(n) => Ok(n),
         None => match u32::try_from(block.len()) {
             Ok(n) => Ok(n),
-            Err(_) => Err(Stop::Memory),
+            Err(_) => Err(Stop::from(beyond_memory())),
         },
     }
 }

@@ -22,6 +22,7 @@ use im_check_statement_forms::{
 use im_check_stop::Stop;
 use im_ctree::{BlockItem, Statement, StatementKind};
 use im_ctype::Integer;
+use im_num::beyond_memory;
 use im_typed::Stmt;
 use std::alloc::Global;
 
@@ -284,7 +285,7 @@ fn place(done: &[Stmt]) -> Result<u32, Stop>
 {
     match u32::try_from(done.len()) {
         Ok(n) => Ok(n),
-        Err(_) => Err(Stop::Memory),
+        Err(_) => Err(Stop::from(beyond_memory())),
     }
 }
 

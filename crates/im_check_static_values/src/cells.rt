@@ -5,7 +5,7 @@ ghost use Rattle.im_ctype.specs.Table.{structs_of};
 ghost use Rattle.im_types.specs.Shape.{type_of};
 
 use im_ctype::{Cell, TypeTable, cells_of_struct};
-use im_num::{Kind, NoMemory};
+use im_num::{Kind, NoMemory, beyond_memory};
 use im_types::{Type, size};
 use std::alloc::Global;
 
@@ -14,7 +14,7 @@ fn past(at: u64, bytes: u64) -> Result<u64, NoMemory>
 {
     match at.checked_add(bytes) {
         Some(end) => Ok(end),
-        None => Err(NoMemory::OutOfMemory),
+        None => Err(beyond_memory()),
     }
 }
 

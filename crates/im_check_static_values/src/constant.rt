@@ -12,7 +12,7 @@ use im_check_constancy::{
     Annotated, binary, choice, comparison, conjunction, conversion, disjunction, negation, number,
     unary, variable,
 };
-use im_num::{Kind, NoMemory};
+use im_num::{Kind, NoMemory, beyond_memory};
 use im_store::Number;
 use im_typed::Expr;
 use std::alloc::Global;
@@ -24,7 +24,7 @@ fn number_from(z: i128) -> Result<Number, NoMemory>
 {
     match Number::of(z) {
         Some(number) => Ok(number),
-        None => Err(NoMemory::OutOfMemory),
+        None => Err(beyond_memory()),
     }
 }
 

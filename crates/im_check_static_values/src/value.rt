@@ -9,7 +9,7 @@ ghost use Rattle.im_check_static_values.specs.Spots.{spot_in};
 use crate::address::{Spot, address_of};
 use crate::constant::{annotated, number_of};
 use crate::sizes::Sizes;
-use im_num::NoMemory;
+use im_num::{NoMemory, beyond_memory};
 use im_typed::{Constant, Expr};
 use std::alloc::Global;
 
@@ -26,7 +26,7 @@ fn pointer_to(spot: Option<Spot>) -> Result<Option<Constant>, NoMemory>
             object: to.object,
             offset,
         })),
-        Err(_) => Err(NoMemory::OutOfMemory),
+        Err(_) => Err(beyond_memory()),
     }
 }
 

@@ -17,7 +17,7 @@ use im_check_name_map::TagList;
 use im_check_scopes::{Scope, Tag};
 use im_check_stop::{Stop, refused};
 use im_ctree::{Specifier, SpecifierKind};
-use im_num::NoMemory;
+use im_num::{NoMemory, beyond_memory};
 use std::alloc::Global;
 
 /// The number of the member list of a tag at file scope, if there is one.
@@ -37,7 +37,7 @@ fn narrowed(number: usize) -> Result<u32, NoMemory>
 {
     match u32::try_from(number) {
         Ok(n) => Ok(n),
-        Err(_) => Err(NoMemory::OutOfMemory),
+        Err(_) => Err(beyond_memory()),
     }
 }
 

@@ -4,7 +4,7 @@ ghost use Rattle.im_ctype.specs.Kept.{AreNodes};
 ghost use Rattle.im_ctype.specs.Table.{IsEarlier};
 
 use crate::node::{TypeId, TypeNode};
-use im_num::NoMemory;
+use im_num::{NoMemory, beyond_memory};
 use std::alloc::Global;
 use std::collections::HashMap;
 
@@ -72,7 +72,7 @@ impl Nodes {
         ensures kept { AreNodes self.new }
     {
         let Ok(number) = u32::try_from(self.list.len()) else {
-            return Err(NoMemory::OutOfMemory);
+            return Err(beyond_memory());
         };
         self.list.push(node)?;
         match self.numbers.insert(node, number) {

@@ -13,7 +13,7 @@ use crate::extent::{Extent, round_up};
 use crate::member::{Member, MemberPlace};
 use crate::node::{TypeId, TypeNode};
 use crate::nodes::Nodes;
-use im_num::NoMemory;
+use im_num::{NoMemory, beyond_memory};
 use std::alloc::Global;
 
 /// A struct of a table, with what is kept of it.
@@ -173,7 +173,7 @@ impl TypeTable {
         ensures refused { OnErr result (self.new ≡ self.old) }
     {
         let Ok(number) = u32::try_from(self.structs.len()) else {
-            return Err(NoMemory::OutOfMemory);
+            return Err(beyond_memory());
         };
         let (places, extent) = self.placed(alloc, &members)?;
         let structure = Structure {

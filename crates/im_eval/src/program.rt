@@ -17,7 +17,7 @@ use crate::{bytes_law, conclude};
 use im_eval_machine::{Code, Found, Here, Outcome, Stopped, layouts_of, machine_of};
 use im_eval_steps::enter_function;
 use im_eval_tasks::Now;
-use im_num::NoMemory;
+use im_num::{NoMemory, beyond_memory};
 use im_typed::{Frames, Prog};
 use std::alloc::Global;
 
@@ -40,7 +40,7 @@ fn finish<'p>(
             other => step(alloc, code, run, other)?,
         };
     }
-    Err(Stopped::OutOfMemory)
+    Err(Stopped::from(beyond_memory()))
 }
 
 /// The run of `main`, where nothing else is to do.

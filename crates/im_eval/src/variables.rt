@@ -14,7 +14,7 @@ ghost use Rattle.im_eval.specs.Shows.{AllStand};
 
 use im_ctype::{Cell, TypeTable, cells, size_of};
 use im_eval_store::{Memory, ObjectName, Value};
-use im_num::{CellValue, NoMemory, Var};
+use im_num::{CellValue, NoMemory, Var, beyond_memory};
 use im_typed::{Object, Static};
 use std::alloc::Global;
 
@@ -31,7 +31,7 @@ fn cell_shown(value: Value) -> Result<CellValue, NoMemory>
                 return Ok(CellValue::Local);
             }
             match u32::try_from(place.object.number) {
-                Err(_) => Err(NoMemory::OutOfMemory),
+                Err(_) => Err(beyond_memory()),
                 Ok(object) => Ok(CellValue::Inside {
                     object,
                     offset: place.offset,

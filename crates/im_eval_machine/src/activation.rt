@@ -15,7 +15,7 @@ use crate::here::Here;
 use crate::machine::Machine;
 use crate::stopped::Stopped;
 use im_eval_store::{Activation, Live, ObjectName, Plan, Value};
-use im_num::NoMemory;
+use im_num::{NoMemory, beyond_memory};
 use im_store::Undefined;
 use std::alloc::Global;
 
@@ -109,11 +109,11 @@ fn begin<'p>(
         machine.old machine.new here) }
 {
     let Some(number) = machine.activations.checked_add(1) else {
-        return Err(NoMemory::OutOfMemory);
+        return Err(beyond_memory());
     };
     let first = layout.first;
     if first >= 1 << 63 {
-        return Err(NoMemory::OutOfMemory);
+        return Err(beyond_memory());
     }
     let objects = objects_of(alloc, &layout.plans, arguments)?;
     let level = machine.memory.activations.len();

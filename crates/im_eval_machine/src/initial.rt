@@ -10,7 +10,7 @@ use crate::code::Code;
 use crate::here::Here;
 use crate::machine::Machine;
 use im_ctype::Cell;
-use im_num::NoMemory;
+use im_num::{NoMemory, beyond_memory};
 use im_typed::{Access, Piece};
 use std::alloc::Global;
 
@@ -34,7 +34,7 @@ fn push_offsets(given: &mut Vec<u64>, by: u32, cells: &[Cell]) -> Result<(), NoM
 {
     for cell in cells {
         let Some(offset) = (by as u64).checked_add(cell.offset) else {
-            return Err(NoMemory::OutOfMemory);
+            return Err(beyond_memory());
         };
         given.push(offset)?;
     }

@@ -15,7 +15,7 @@ ghost use Rattle.im_eval_machine.specs.Settings.{static_shapes};
 use crate::code::{Layout, Layouts};
 use im_ctype::{Cell, TypeTable, cells, cells_of_struct, size_of};
 use im_eval_store::Plan;
-use im_num::NoMemory;
+use im_num::{NoMemory, beyond_memory};
 use im_typed::{Func, Object, Prog, Static};
 use std::alloc::Global;
 
@@ -72,7 +72,7 @@ fn function_layouts(
     for func in funcs {
         let first = next;
         let Some(past) = first.checked_add(func.objects.len() as u64) else {
-            return Err(NoMemory::OutOfMemory);
+            return Err(beyond_memory());
         };
         next = past;
         let plans = plans_of(alloc, types, &func.objects)?;
@@ -90,7 +90,7 @@ fn all_struct_cells(alloc: Global, types: &TypeTable) -> Result<Vec<Vec<Cell>>, 
     let mut structs = Vec::new(alloc);
     for number in 0..types.struct_count() {
         let Ok(name) = u32::try_from(number) else {
-            return Err(NoMemory::OutOfMemory);
+            return Err(beyond_memory());
         };
         structs.push(cells_of_struct(alloc, name, types)?)?;
     }

@@ -6,7 +6,7 @@ ghost use Rattle.im_gap.specs.Table.{following, successors_by, behind, Drawn};
 
 use crate::flow::{Turn, Way, index_at, links_register, way_of};
 use crate::graph::Node;
-use im_num::NoMemory;
+use im_num::{NoMemory, beyond_memory};
 
 // the next word, if there is one
 fn push_following(targets: &mut Vec<u32>, count: u32, i: u32) -> Result<(), NoMemory>
@@ -84,7 +84,7 @@ pub fn push_behind(targets: &mut Vec<u32>, words: &[u32], register: u8) -> Resul
 pub fn small(place: usize) -> Result<u32, NoMemory>
     ensures { IfOk result (λ n. n ≡ place) }
 {
-    u32::try_from(place).map_err(|_| NoMemory::OutOfMemory)
+    u32::try_from(place).map_err(|_| beyond_memory())
 }
 
 /// The nodes of the words, in their order.

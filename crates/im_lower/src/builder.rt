@@ -4,7 +4,7 @@ ghost use Rattle.im_lower_relation.specs.Codes.{ends};
 ghost use Rattle.im_lower_plain.specs.Made.{Made, above_exit, above_line, above_place, close, point_of, put, put_read, put_write, start, turn};
 
 use im_block::{Block, Exit, Line, Place};
-use im_num::{Kind, NoMemory};
+use im_num::{Kind, NoMemory, beyond_memory};
 use std::alloc::Global;
 use std::mem;
 
@@ -130,7 +130,7 @@ impl Builder {
         ensures closed { OnOk result (self.new ≡ close self.old) }
     {
         let Ok(number) = u32::try_from(self.blocks.len()) else {
-            return Err(NoMemory::OutOfMemory);
+            return Err(beyond_memory());
         };
         let mut lines = mem::replace(&mut self.lines, Vec::new(self.alloc));
         lines.reverse();
@@ -186,21 +186,21 @@ impl Builder {
 fn next_access(access: u64) -> Result<u64, NoMemory>
     ensures { IfOk result (λ n. n ≡ access + 1) }
 {
-    access.checked_add(1).ok_or(NoMemory::OutOfMemory)
+    access.checked_add(1).ok_or(beyond_memory())
 }
 
 /// A sum of two numbers of objects, registers or bytes. No program that fits in memory exceeds it.
 pub(crate) fn sum(left: u32, right: u32) -> Result<u32, NoMemory>
     ensures { IfOk result (λ n. n ≡ left + right) }
 {
-    left.checked_add(right).ok_or(NoMemory::OutOfMemory)
+    left.checked_add(right).ok_or(beyond_memory())
 }
 
 /// The register that follows.
 pub(crate) fn next(register: u32) -> Result<u32, NoMemory>
     ensures { IfOk result (λ n. n ≡ register + 1) }
 {
-    register.checked_add(1).ok_or(NoMemory::OutOfMemory)
+    register.checked_add(1).ok_or(beyond_memory())
 }
 
 /// The first register above that of a place.
@@ -267,7 +267,7 @@ fn above_line(line: Line) -> Result<u32, NoMemory>
             count,
             ..
         } => {
-            let end = first.checked_add(count).ok_or(NoMemory::OutOfMemory)?;
+            let end = first.checked_add(count).ok_or(beyond_memory())?;
             Ok(next(to)?.max(end))
         }
     }

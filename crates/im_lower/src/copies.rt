@@ -12,7 +12,7 @@ use crate::builder::{Builder, next, sum};
 use crate::lines::{put_reads, put_writes};
 use im_block::Line;
 use im_ctype::{Cell, bytes_of_kind};
-use im_num::NoMemory;
+use im_num::{NoMemory, beyond_memory};
 use im_typed::{Expr, Place, Prog};
 
 /// How many groups of 8 cells a struct is copied in, besides one of those that are left: none but
@@ -136,7 +136,7 @@ fn end_of(cell: Cell) -> Result<u64, NoMemory>
 {
     match cell.offset.checked_add(bytes_of_kind(cell.kind)) {
         Some(end) => Ok(end),
-        None => Err(NoMemory::OutOfMemory),
+        None => Err(beyond_memory()),
     }
 }
 

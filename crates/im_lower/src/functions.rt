@@ -11,7 +11,7 @@ use crate::lines::{register_at, small};
 use crate::statements::lower_statement;
 use im_block::{Exit, Function, Line, Object, Place, Registers};
 use im_ctype::{Cell, TypeTable, cells, size_of};
-use im_num::{Kind, NoMemory};
+use im_num::{Kind, NoMemory, beyond_memory};
 use im_typed::{Func, Prog, need, nodes};
 use std::alloc::Global;
 
@@ -31,7 +31,7 @@ pub(crate) fn lower_function(
 {
     let bytes = need(func);
     if bytes == u64::MAX {
-        return Err(NoMemory::OutOfMemory);
+        return Err(beyond_memory());
     }
     let objects = lower_objects(alloc, &func.objects, &prog.types)?;
     let base = Base {

@@ -12,7 +12,7 @@ use crate::expressions::{Base, lower_value};
 use crate::lines::small;
 use im_block::{Line, Object, Place};
 use im_ctype::{Cell, cells_of_struct};
-use im_num::{Kind, NoMemory};
+use im_num::{Kind, NoMemory, beyond_memory};
 use im_typed::{Access, Piece, Prog};
 
 /// Puts an initialiser: its expressions in order, and zero or null in the cells without one.
@@ -78,7 +78,7 @@ fn push_cell_offsets(found: &mut Vec<u64>, offset: u32, cells: &[Cell]) -> Resul
 {
     for cell in cells {
         let Some(at) = (offset as u64).checked_add(cell.offset) else {
-            return Err(NoMemory::OutOfMemory);
+            return Err(beyond_memory());
         };
         found.push(at)?;
     }

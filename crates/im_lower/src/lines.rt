@@ -7,7 +7,7 @@ use crate::builder::{Builder, sum};
 use crate::places::{changed_kind, further_in};
 use im_block::{Line, Place};
 use im_ctype::Cell;
-use im_num::{Kind, NoMemory};
+use im_num::{Kind, NoMemory, beyond_memory};
 use im_typed::{Access, Change};
 
 /// Puts the read of a cell, or a struct's address.
@@ -67,7 +67,7 @@ pub(crate) fn put_writes(
 pub(crate) fn small(offset: u64) -> Result<u32, NoMemory>
     ensures { IfOk result (λ n. n ≡ offset) }
 {
-    u32::try_from(offset).map_err(|_| NoMemory::OutOfMemory)
+    u32::try_from(offset).map_err(|_| beyond_memory())
 }
 
 /// The register that is so many behind one.

@@ -9,7 +9,7 @@ ghost use Rattle.im_parse.specs.Spelling.{AreWords, IsCutShort, IsParsed, earlie
 use super::dimensions::first_dimensioned;
 use super::units::unit;
 use im_ctree::Tree;
-use im_num::NoMemory;
+use im_num::{NoMemory, beyond_memory};
 use im_parse_core::Stop;
 use im_tok::Token;
 use im_word::{Word, first_too_deep, word_of};
@@ -65,7 +65,7 @@ pub fn parse(alloc: Global, source: &[u8], tokens: Vec<Token>) -> Result<Tree, P
     let words = words_of(alloc, source, &tokens)?;
     drop(tokens);
     if words.len() > u32::MAX as usize {
-        return Err(ParseFault::Memory);
+        return Err(ParseFault::from(beyond_memory()));
     }
     parsed(alloc, &words)
 }

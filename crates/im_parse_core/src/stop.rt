@@ -1,6 +1,7 @@
 ghost use Rattle.std.specs.Prelude.{◌≡◌};
 ghost use Rattle.im_parse_core.specs.declared.stop.Stop.TheVariants.{Memory};
 
+use im_num::NoMemory;
 use std::alloc::{AllocError, AllocFailed};
 
 /// Why a parsing function read nothing.
@@ -10,6 +11,14 @@ pub enum Stop {
     Syntax(u32),
     /// Memory ran out.
     Memory,
+}
+
+impl From<NoMemory> for Stop {
+    ghost from_gives = { λ _ stop. stop ≡ Memory };
+
+    fn from(_fault: NoMemory) -> Stop {
+        Stop::Memory
+    }
 }
 
 impl<T: Drop> From<AllocFailed<T>> for Stop {

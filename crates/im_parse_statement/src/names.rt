@@ -8,6 +8,7 @@ ghost use Rattle.im_parse_expression.specs.Parsing.{Parses, Anything};
 
 use im_ctree::{Declaration, Declarator, InitDeclarator};
 use im_ctree_parts::{declared_name, has_typedef};
+use im_num::beyond_memory;
 use im_parse_core::{Stop, TypedefNames};
 use im_parse_expression::declaration;
 use im_word::Word;
@@ -41,7 +42,7 @@ fn push_name<'b>(
     match declared_name(declarator) {
         None => Ok(()),
         Some(name) => match find_name(words, declarator.at, name) {
-            None => Err(Stop::Memory),
+            None => Err(Stop::from(beyond_memory())),
             Some(bytes) => names.push(bytes),
         },
     }

@@ -10,7 +10,7 @@ use crate::program::Program;
 use crate::runtime::push_part;
 use im_block::Function;
 use im_link::Linker;
-use im_num::NoMemory;
+use im_num::{NoMemory, beyond_memory};
 use im_rtlib::FIRST_FREE;
 use im_select::{Names, select};
 use std::alloc::Global;
@@ -22,7 +22,7 @@ fn label_behind(label: u32, blocks: usize) -> Result<u32, NoMemory>
 {
     match u32::try_from(u64::from(label).saturating_add(blocks as u64)) {
         Ok(next) => Ok(next),
-        Err(_) => Err(NoMemory::OutOfMemory),
+        Err(_) => Err(beyond_memory()),
     }
 }
 

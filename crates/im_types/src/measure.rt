@@ -9,14 +9,14 @@ ghost use Rattle.im_types.specs.Shape.{type_of};
 
 use crate::tree::Type;
 use im_ctype::{Extent, TypeTable, bytes_of_kind};
-use im_num::NoMemory;
+use im_num::{NoMemory, beyond_memory};
 
 fn sum(first: u64, second: u64) -> Result<u64, NoMemory>
     ensures { IfOk result (λ n. n ≡ first + second) }
 {
     match first.checked_add(second) {
         Some(n) => Ok(n),
-        None => Err(NoMemory::OutOfMemory),
+        None => Err(beyond_memory()),
     }
 }
 
@@ -25,7 +25,7 @@ fn product(first: u64, second: u64) -> Result<u64, NoMemory>
 {
     match first.checked_mul(second) {
         Some(n) => Ok(n),
-        None => Err(NoMemory::OutOfMemory),
+        None => Err(beyond_memory()),
     }
 }
 
@@ -34,7 +34,7 @@ fn round_up(offset: u64, alignment: u64) -> Result<u64, NoMemory>
     ensures { IfOk result (λ n. n ≡ l.round_up offset alignment) }
 {
     if alignment == 0 {
-        return Err(NoMemory::OutOfMemory);
+        return Err(beyond_memory());
     }
     sum(offset, (alignment - offset % alignment) % alignment)
 }

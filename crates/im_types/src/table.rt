@@ -7,7 +7,7 @@ ghost use Rattle.im_types.specs.Shape.{type_of};
 use crate::build::{array_of, pointer_to};
 use crate::tree::Type;
 use im_ctype::{TypeId, TypeNode, TypeTable, is_complete, size_of};
-use im_num::NoMemory;
+use im_num::{NoMemory, beyond_memory};
 use std::alloc::Global;
 
 /// A type of the table.
@@ -38,13 +38,13 @@ fn array_in(table: &mut TypeTable, element: TypeId, count: u64) -> Result<TypeId
     ensures grown { IsGrown table.old table.new }
 {
     let Ok(elements) = u32::try_from(count) else {
-        return Err(NoMemory::OutOfMemory);
+        return Err(beyond_memory());
     };
     if elements == 0 || !is_complete(element, table) {
-        return Err(NoMemory::OutOfMemory);
+        return Err(beyond_memory());
     }
     if size_of(element, table).checked_mul(count).is_none() {
-        return Err(NoMemory::OutOfMemory);
+        return Err(beyond_memory());
     }
     table.array(element, elements)
 }
@@ -67,6 +67,6 @@ pub fn id_of(table: &mut TypeTable, ty: &Type) -> Result<TypeId, NoMemory>
             array_in(table, each, *count)
         }
         Type::Struct(number) => table.structure(*number),
-        Type::Unsized(_) | Type::Function(_, _) => Err(NoMemory::OutOfMemory),
+        Type::Unsized(_) | Type::Function(_, _) => Err(beyond_memory()),
     }
 }
