@@ -180,19 +180,19 @@ module _ (g : p.Prog) (first : ℕ) where
   -- what is left of a conversion's code once its line is put
   pub converted_left : (types : Table) (x e : re.Expr) (kind : Kind) (operand : Box re.Expr Global) (to free : ℕ) (m m₁ : Made)
       → x ≡ re.Convert kind operand → e ≡ operand.value → m₁ ≡ put_operator (expr_of types x) to free m
-      → make g first (expr_of types e) free (free + 1) m₁ ≡ make g first (expr_of types x) to free m
+      → make g first (expr_of types e) to free m₁ ≡ make g first (expr_of types x) to free m
   converted_left types x e kind operand to free m m₁ is is_e is₁ =
-      ap (λ (y : re.Expr). make g first (expr_of types y) free (free + 1) m₁) is_e
-      ∙ ap (make g first (expr_of types operand.value) free (free + 1)) (is₁ ∙ ap (λ (y : re.Expr). put_operator (expr_of types y) to free m) is)
+      ap (λ (y : re.Expr). make g first (expr_of types y) to free m₁) is_e
+      ∙ ap (make g first (expr_of types operand.value) to free) (is₁ ∙ ap (λ (y : re.Expr). put_operator (expr_of types y) to free m) is)
       ∙ sym (ap (λ (y : re.Expr). make g first (expr_of types y) to free m) is)
 
   -- of a comma's once that behind it is put
   pub comma_left : (types : Table) (x e d : re.Expr) (left right : Box re.Expr Global) (to free : ℕ) (m m₁ : Made)
       → x ≡ re.Comma left right → e ≡ left.value → d ≡ right.value → m₁ ≡ make g first (expr_of types d) to free m
-      → make g first (expr_of types e) free (free + 1) m₁ ≡ make g first (expr_of types x) to free m
+      → make g first (expr_of types e) to free m₁ ≡ make g first (expr_of types x) to free m
   comma_left types x e d left right to free m m₁ is is_e is_d is₁ =
-      ap (λ (y : re.Expr). make g first (expr_of types y) free (free + 1) m₁) is_e
-      ∙ ap (make g first (expr_of types left.value) free (free + 1)) (is₁ ∙ ap (λ (y : re.Expr). make g first (expr_of types y) to free m) is_d)
+      ap (λ (y : re.Expr). make g first (expr_of types y) to free m₁) is_e
+      ∙ ap (make g first (expr_of types left.value) to free) (is₁ ∙ ap (λ (y : re.Expr). make g first (expr_of types y) to free m) is_d)
       ∙ sym (ap (λ (y : re.Expr). make g first (expr_of types y) to free m) is)
 
   -- of a read's and an address's once their lines are put

@@ -8,7 +8,7 @@ use crate::builder::{Builder, Targets, next};
 use crate::copies::{groups_in, put_copy};
 use crate::lines::{put_change, put_increment, put_load, register_at, small};
 use crate::operators::{put_operator, put_truths};
-use crate::places::{behind, changed_kind, discarded, place_at, pointer_of, shape_of};
+use crate::places::{behind, changed_kind, place_at, pointer_of, shape_of};
 use im_block::{Exit, Line};
 use im_ctype::cells_of_struct;
 use im_num::NoMemory;
@@ -100,13 +100,47 @@ fn lower_behind<'a>(
         (λ operand. size-Expr operand.now < size-Expr expression.now)) }
 {
     let mut kept = expression;
-    while let Some(operand) = discarded(kept) {
+    while let Some(operand) = lower_kept(code, kept, to, free, prog, first)? {
         kept = operand;
     }
     lower_link(code, kept, to, free, prog, first)
 }
 
-/// Puts the same code of an expression that is no cast to `void`.
+/// Puts the code of a conversion, a comma or a cast to `void`, but for that of its first operand,
+/// whose value is to go into the same register; of anything else nothing.
+#[cycle(expressions)]
+fn lower_kept<'a>(
+    code: &mut Builder,
+    expression: &'a Expr,
+    to: u32,
+    free: u32,
+    prog: &Prog,
+    first: u32,
+) -> Result<Option<&'a Expr>, NoMemory>
+    ensures made { IfOk result (λ found. MatchOption found
+        (code.new ≡ code.old)
+        (λ operand. make (program_of prog.now) first
+        (expr_of prog.now.types operand.now) to free code.new
+        ≡ make (program_of prog.now) first
+        (expr_of prog.now.types expression.now) to free code.old)) }
+    ensures below { IfOk result (λ found. IfSome found
+        (λ operand. size-Expr operand.now < size-Expr expression.now)) }
+{
+    match expression {
+        Expr::Convert(_, operand) => {
+            put_operator(code, expression, to, free)?;
+            Ok(Some(operand))
+        }
+        Expr::Comma(left, right) => {
+            lower_expression(code, right, to, free, prog, first)?;
+            Ok(Some(left))
+        }
+        Expr::Discard(operand) => Ok(Some(operand)),
+        _ => Ok(None),
+    }
+}
+
+/// Puts the same code of an expression that is no conversion, no comma and no cast.
 #[cycle(expressions)]
 fn lower_link<'a>(
     code: &mut Builder,
@@ -127,10 +161,6 @@ fn lower_link<'a>(
         (λ operand. size-Expr operand.now < size-Expr expression.now)) }
 {
     match expression {
-        Expr::Convert(_, operand) => {
-            put_operator(code, expression, to, free)?;
-            Ok(Some(operand))
-        }
         Expr::Move {
             pointer: left,
             by: right,
@@ -144,10 +174,6 @@ fn lower_link<'a>(
             put_operator(code, expression, to, free)?;
             let above = next(free)?;
             lower_expression(code, right, above, next(above)?, prog, first)?;
-            Ok(Some(left))
-        }
-        Expr::Comma(left, right) => {
-            lower_expression(code, right, to, free, prog, first)?;
             Ok(Some(left))
         }
         Expr::Read(access, place) => {
@@ -191,10 +217,11 @@ fn lower_form(
             service: *service,
             from: None,
         }),
-        Expr::Convert(_, operand)
-        | Expr::Unary(_, _, operand)
-        | Expr::Not(operand)
-        | Expr::ServeWith(_, operand) => {
+        Expr::Convert(_, operand) => {
+            put_operator(code, expression, to, free)?;
+            lower_expression(code, operand, to, free, prog, first)
+        }
+        Expr::Unary(_, _, operand) | Expr::Not(operand) | Expr::ServeWith(_, operand) => {
             put_operator(code, expression, to, free)?;
             lower_expression(code, operand, free, above, prog, first)
         }
@@ -247,7 +274,7 @@ fn lower_form(
         }
         Expr::Comma(left, right) => {
             lower_expression(code, right, to, free, prog, first)?;
-            lower_expression(code, left, free, above, prog, first)
+            lower_expression(code, left, to, free, prog, first)
         }
         Expr::Discard(operand) => lower_expression(code, operand, to, free, prog, first),
         Expr::Assign(access, place, value) => match access {

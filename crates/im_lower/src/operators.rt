@@ -25,7 +25,7 @@ pub(crate) fn put_operator(
         Expr::Convert(kind, _) => code.put(Line::Convert {
             to,
             kind: *kind,
-            from: free,
+            from: to,
         }),
         Expr::Unary(op, kind, _) => code.put(Line::Unary {
             to,

@@ -83,19 +83,6 @@ pub(crate) fn pointer_of(place: &Place) -> Option<&Expr>
     }
 }
 
-/// What a cast to `void` stands around: its code is that of the cast.
-pub(crate) fn discarded(expression: &Expr) -> Option<&Expr>
-    ensures made { (types : Table) (g : program.Prog) (first to free : ℕ) (m : Made) → IfSome result
-        (λ operand. make g first (expr_of types expression.now) to free m
-        ≡ make g first (expr_of types operand.now) to free m) }
-    ensures below { IfSome result (λ operand. size-Expr operand.now < size-Expr expression.now) }
-{
-    match expression {
-        Expr::Discard(operand) => Some(operand),
-        _ => None,
-    }
-}
-
 /// What an expression gives: nothing, a value of a kind, or a struct.
 pub(crate) fn shape_of(expression: &Expr, prog: &Prog) -> Option<Access>
     ensures { option_map (access_of prog.now.types) result

@@ -370,8 +370,8 @@ module _ (g : p.Prog) (f : p.Func) (code : Function) (first low limit : ℕ) (pr
     adds (p.Convert kind e) ty c t m n to free lt lf t1 le h =
         let one = nodes_positive e in
         at_most g code low limit (c + 64 * (1 + expr_nodes e)) t (omega arith) (omega arith)
-        (adds e ty.1 (c + 11) t m _ free (free + 1) lf (omega arith) (omega arith) (omega arith)
-        (adds_convert g code low limit to kind free (register to lt t1) (register free lf (omega arith)) (no_pointer kind ty.0) h))
+        (adds e ty.1 (c + 11) t m _ to free lt lf t1 (omega arith)
+        (adds_convert g code low limit to kind to (register to lt t1) (register to lt t1) (no_pointer kind ty.0) h))
     adds (p.Unary op kind e) ty c t m n to free lt lf t1 le h =
         let one = nodes_positive e in
         at_most g code low limit (c + 64 * (1 + expr_nodes e)) t (omega arith) (omega arith)
@@ -444,7 +444,7 @@ module _ (g : p.Prog) (f : p.Func) (code : Function) (first low limit : ℕ) (pr
         (step_close g code low limit (adds b ty.2 (c + 2) t m joined to free lt lf t1 (omega arith) (step_close g code low limit h)))))))
     adds (p.Comma a b) ty c t m n to free lt lf t1 le h =
         at_most g code low limit (c + 64 * (1 + expr_nodes a + expr_nodes b)) t (omega arith) (omega arith)
-        (adds a ty.0 (c + 64 * expr_nodes b) t m _ free (free + 1) lf (omega arith) (let one = nodes_positive a in omega arith) (let one = nodes_positive b in omega arith)
+        (adds a ty.0 (c + 64 * expr_nodes b) t m _ to free lt lf t1 (let one = nodes_positive b in omega arith)
         (adds b ty.1 c t m n to free lt lf t1 (omega arith) h))
     adds (p.Discard a) ty c t m n to free lt lf t1 le h =
         at_most g code low limit (c + 64 * (1 + expr_nodes a)) t (omega arith) (omega arith) (adds a ty c t m n to free lt lf t1 (omega arith) h)

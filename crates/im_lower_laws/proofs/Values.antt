@@ -66,7 +66,7 @@ module _ (g : p.Prog) (first : ℕ) (blocks : List Block) where
         let w = where_of g first blocks a free in
         place_allows a free s _ n P c (sets_placed blocks n (Address to w) w to t P (λ v. refl) (λ v. refl) h)
     allows (p.Convert kind e) to free s t n P c h =
-        allows e free (free + 1) s _ n P c (sets_one blocks n (Convert to kind free) free to t P (λ v. refl) (λ v. refl) h)
+        allows e to free s _ n P c (sets_one blocks n (Convert to kind to) to to t P (λ v. refl) (λ v. refl) h)
     allows (p.Unary op kind e) to free s t n P c h =
         allows e free (free + 1) s _ n P c (sets_one blocks n (Unary to op kind free) free to t P (λ v. refl) (λ v. refl) h)
     allows (p.Binary op kind a b) to free s t n P c h =
@@ -108,7 +108,7 @@ module _ (g : p.Prog) (first : ℕ) (blocks : List Block) where
         let other = allows b to free c.4 (ends (Jump j)) n P c.10 joined in
         test_by_allows q (λ to free s t n P c h. allows q to free s t n P c h) free c.1 c.2 s n P c.8 (jump blocks n c.1 c.3 P c.6 one) (jump blocks n c.2 c.4 P c.7 other)
     allows (p.Comma a b) to free s t n P c h =
-        allows a free (free + 1) s c.0 n P c.1 (weaker blocks n c.0 P (Or free P) (allows b to free c.0 t n P c.2 h) (λ v q. inr q))
+        allows a to free s c.0 n P c.1 (weaker blocks n c.0 P (Or to P) (allows b to free c.0 t n P c.2 h) (λ v q. inr q))
     allows (p.Discard a) to free s t n P c h = allows a to free s t n P c h
     allows (p.Assign (p.Scalar kind) a e) to free s t n P c h =
         let w = where_of g first blocks a free in

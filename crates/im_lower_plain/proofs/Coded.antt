@@ -184,7 +184,7 @@ module _ (g : p.Prog) (first : ℕ) (later : List Block) where
     coded (p.Address a) to free m low le l =
         let P = λ (w : Place) (q : ℕ). CodesPlace g first later a free (make g first (p.Address a) to free m).point (before (Address to w) m.point) in
         carry P a free (place_coded a free (put (Address to (place_at first a free)) m) low le l)
-    coded (p.Convert kind e) to free m low le l = coded e free (free + 1) (put (Convert to kind free) m) low le l
+    coded (p.Convert kind e) to free m low le l = coded e to free (put (Convert to kind to) m) low le l
     coded (p.Unary op kind e) to free m low le l = coded e free (free + 1) (put (Unary to op kind free) m) low le l
     coded (p.Binary op kind a b) to free m low le l =
         let two = two_coded a b (coded a) (coded b) (Compute to op kind free (free + 1)) free m low le l in
@@ -246,7 +246,7 @@ module _ (g : p.Prog) (first : ℕ) (later : List Block) where
     coded (p.Comma a b) to free m low le l =
         let n = make g first b to free m in
         let grown : Grows m n = grows g first b to free (stays m) in
-        (n.point, coded a free (free + 1) n low (further_on low le grown) l, coded b to free m low le (later_before (grows g first a free (free + 1) (stays n)) l))
+        (n.point, coded a to free n low (further_on low le grown) l, coded b to free m low le (later_before (grows g first a to free (stays n)) l))
     coded (p.Discard a) to free m low le l = coded a to free m low le l
     coded (p.Assign (p.Scalar kind) a e) to free m low le l =
         let stored = put_write (place_at first a free) kind to m in

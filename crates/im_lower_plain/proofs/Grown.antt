@@ -61,7 +61,7 @@ module _ (g : p.Prog) (first : ℕ) where
     grows (p.NullPointer kind) to free h = grows_put (PutNull to) h
     grows (p.Read x a) to free h = place_grows a free (load_grows x to (place_at first a free) h)
     grows (p.Address a) to free h = place_grows a free (grows_put (Address to (place_at first a free)) h)
-    grows (p.Convert kind e) to free h = grows e free (free + 1) (grows_put (Convert to kind free) h)
+    grows (p.Convert kind e) to free h = grows e to free (grows_put (Convert to kind to) h)
     grows (p.Unary op kind e) to free h = grows e free (free + 1) (grows_put (Unary to op kind free) h)
     grows (p.Binary op kind a b) to free h =
         grows a free (free + 1) (grows b (free + 1) (free + 1 + 1) (grows_put (Compute to op kind free (free + 1)) h))
@@ -83,7 +83,7 @@ module _ (g : p.Prog) (first : ℕ) where
     grows (p.Choose q a b) to free h =
         test_by_grows q (λ m n to free h. grows q to free h) free _ _
         (grows_close (grows a to free (grows_start _ (grows_close (grows b to free (grows_close h))))))
-    grows (p.Comma a b) to free h = grows a free (free + 1) (grows b to free h)
+    grows (p.Comma a b) to free h = grows a to free (grows b to free h)
     grows (p.Discard a) to free h = grows a to free h
     grows (p.Assign (p.Scalar kind) a e) to free h =
         place_grows a free (grows e to (behind a free) (grows_write (place_at first a free) kind to h))

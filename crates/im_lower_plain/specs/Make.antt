@@ -82,7 +82,7 @@ part_offset g from e = offset_in (slice_get (cells_of_shape (shape_of g e)) from
 
 -- the line of an expression that has one behind those of its operands, which are in the register free and the next one
 abbrev pub put_operator : p.Expr → ℕ → ℕ → Made → Made
-put_operator (p.Convert kind e) to free m = put (Convert to kind free) m
+put_operator (p.Convert kind e) to free m = put (Convert to kind to) m
 put_operator (p.Unary op kind e) to free m = put (Unary to op kind free) m
 put_operator (p.Binary op kind a b) to free m = put (Compute to op kind free (free + 1)) m
 put_operator (p.Move size back a b) to free m = put (Move to size back free (free + 1)) m
@@ -113,7 +113,7 @@ module _ (g : p.Prog) (first : ℕ) where
     make (p.NullPointer kind) to free m = put (PutNull to) m
     make (p.Read x a) to free m = make_place a free (put_load x to (place_at first a free) m)
     make (p.Address a) to free m = make_place a free (put (Address to (place_at first a free)) m)
-    make (p.Convert kind e) to free m = make e free (free + 1) (put (Convert to kind free) m)
+    make (p.Convert kind e) to free m = make e to free (put (Convert to kind to) m)
     make (p.Unary op kind e) to free m = make e free (free + 1) (put (Unary to op kind free) m)
     make (p.Binary op kind a b) to free m =
         make a free (free + 1) (make b (free + 1) (free + 1 + 1) (put (Compute to op kind free (free + 1)) m))
@@ -137,7 +137,7 @@ module _ (g : p.Prog) (first : ℕ) where
         let other = make b to free joined in
         let one = make a to free (start (Jump (length m.blocks)) (close other)) in
         make_test_by q (make q) free (length one.blocks) (length other.blocks) (close one)
-    make (p.Comma a b) to free m = make a free (free + 1) (make b to free m)
+    make (p.Comma a b) to free m = make a to free (make b to free m)
     make (p.Discard a) to free m = make a to free m
     make (p.Assign (p.Scalar kind) a e) to free m =
         make_place a free (make e to (behind a free) (put_write (place_at first a free) kind to m))

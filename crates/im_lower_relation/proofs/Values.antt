@@ -310,12 +310,12 @@ module _ (u : Code) (g : Setting) (p : q.Prog) (f : q.Func) (c : Around) (bound 
         let i = integer-shape (shape_of p e) t.2 in
         does-number u g p home i.2
         (used-as e s i.1 t.1 ready
-        (lowered e free (free + 1) entry (before (Convert to kind free) next) (omega arith) t.1 codes n registers store s ready))
+        (lowered e to free entry (before (Convert to kind to) next) lt t.1 codes n registers store s ready))
         (λ z v b after left h took.
-        does-line u g p home (Convert to kind free) next b after left v to (m.as_number (m.converted kind (after free))) (Number (wrap kind z)) refl
+        does-line u g p home (Convert to kind to) next b after left v to (m.as_number (m.converted kind (after to))) (Number (wrap kind z)) refl
         (ap (λ x. m.as_number (m.converted kind x)) took.has)
         (arrived u g p home next b registers after to free (Number (wrap kind z)) left v took.agrees
-        (λ x l ne. took.kept x (omega arith) (λ e. omega arith))))
+        (λ x l ne. took.kept x l ne)))
     lowered (q.Unary op kind e) to free entry next lt t codes n registers store s ready =
         does-number u g p home t.0.0
         (used-as e s t.2 t.1 ready
@@ -369,9 +369,9 @@ module _ (u : Code) (g : Setting) (p : q.Prog) (f : q.Func) (c : Around) (bound 
     lowered (q.Comma a b) to free entry next lt t codes n registers store s ready =
         does-bind u g p home
         (joined u g p home (right a s t.0 ready)
-        (lowered a free (free + 1) entry codes.0 (omega arith) t.0 codes.1 n registers store s ready))
+        (lowered a to free entry codes.0 lt t.0 codes.1 n registers store s ready))
         (λ vs v n₁ after left k.
-        does-weaker u g p home (λ ws w after₂ left₂ came. record { agrees = came.agrees; kept = λ i l ne. came.kept i l ne ∙ k.1.kept i (omega arith) (λ e. omega arith); has = came.has })
+        does-weaker u g p home (λ ws w after₂ left₂ came. record { agrees = came.agrees; kept = λ i l ne. came.kept i l ne ∙ k.1.kept i l ne; has = came.has })
         (lowered b to free codes.0 next lt t.1 codes.2 n₁ after left v (ready-known p f c bound ready k.0 k.1.agrees)))
     lowered (q.Discard a) to free entry next lt t codes n registers store s ready =
         does-bind u g p home (lowered a to free entry next lt t codes n registers store s ready)

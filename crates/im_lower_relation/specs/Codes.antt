@@ -142,7 +142,7 @@ module _ (g : p.Prog) (first : ℕ) (blocks : List Block) where
     Codes (p.Read (p.Scalar kind) a) to free s t = (n : ℕ) × CodesPlace a free s (before (Read to (where_of a free) kind n) t)
     Codes (p.Read (p.Struct count cells) a) to free s t = CodesPlace a free s (before (Address to (where_of a free)) t)
     Codes (p.Address a) to free s t = CodesPlace a free s (before (Address to (where_of a free)) t)
-    Codes (p.Convert kind e) to free s t = Codes e free (free + 1) s (before (Convert to kind free) t)
+    Codes (p.Convert kind e) to free s t = Codes e to free s (before (Convert to kind to) t)
     Codes (p.Unary op kind e) to free s t = Codes e free (free + 1) s (before (Unary to op kind free) t)
     Codes (p.Binary op kind a b) to free s t =
         (m : Point) × Codes a free (free + 1) s m × Codes b (free + 1) (free + 2) m (before (Compute to op kind free (free + 1)) t)
@@ -166,7 +166,7 @@ module _ (g : p.Prog) (first : ℕ) (blocks : List Block) where
     Codes (p.Choose q a b) to free s t =
         (j x y : ℕ) × (one other : Point) × Begins blocks j t × Begins blocks x one × Begins blocks y other
         × CodesTestBy q (Codes q) free x y s × Codes a to free one (ends (Jump j)) × Codes b to free other (ends (Jump j))
-    Codes (p.Comma a b) to free s t = (m : Point) × Codes a free (free + 1) s m × Codes b to free m t
+    Codes (p.Comma a b) to free s t = (m : Point) × Codes a to free s m × Codes b to free m t
     Codes (p.Discard a) to free s t = Codes a to free s t
     Codes (p.Assign (p.Scalar kind) a e) to free s t =
         (m : Point) × (n : ℕ) × CodesPlace a free s m × Codes e to (above a free) m (before (Write (where_of a free) kind to n) t)

@@ -40,10 +40,10 @@ lower_form-returns-in_ok-holds-in-Choose t c =
     let w = c.in-Choose in
     let m = c.args.code.now in
     let m₁ = c.close-in-Choose.new.self in
-    let m₂ = c.lower_expression.new.code in
+    let m₂ = c.lower_expression-in-Choose.new.code in
     let m₃ = c.close-in-Choose-2.new.self in
     let m₄ = c.start.new.self in
-    let m₅ = c.lower_expression-in-Choose.new.code in
+    let m₅ = c.lower_expression-in-Choose-2.new.code in
     let m₆ = c.close-in-Choose-3.new.self in
     let fails = c.in_ok-fails-in-Choose.fails in
     let holds = c.in_ok-holds-in-Choose.holds in
@@ -142,7 +142,7 @@ lower_form-returns-in_ok-lower_expression-in-Binary t c =
     let types = c.args.prog.now.types in
     let w = c.in-Binary in
     let m = c.args.code.now in
-    let m₁ = c.put_operator.new.code in
+    let m₁ = c.put_operator-in-Binary.new.code in
     let m₂ = c.lower_expression-in-Binary.new.code in
     let further = c.in_ok-next-in-Binary.field-0 in
     let second = c.in_ok-lower_expression-in-Binary.ensures ∙ ap (λ (x : Expr). make g c.args.first (expr_of types x) c.in_ok-above.above further m₁) c.deref-in-Binary.ensures in
@@ -221,33 +221,19 @@ lower_place-returns-in_ok-next-in-Some t c =
     let above = ap (λ n. make g c.args.first (expr_of types c.in-Some.pointer.now) c.args.free n m) c.in_ok-next-in-Some.ensures in
     subst (λ (z : Made). OnOk c.lower_expression.result (c.lower_expression.new.code ≡ z)) (above ∙ sym reached) c.lower_expression.ensures
 
-pub lower_behind-loop-operand-preserved : goal.lower_behind-loop-operand-preserved
-lower_behind-loop-operand-preserved t c = (
-  λ types g first to free m. c.loop-operand.invariant.0 types g first to free m ∙ c.in-Some.ensures.made types g first to free m,
-  omega (arith, c.in-Some.ensures.below, c.loop-operand.invariant.1),
-)
-
-pub lower_behind-returns-clause-made : goal.lower_behind-returns-clause-made
-lower_behind-returns-clause-made t c =
-    let g = program_of c.args.prog.now in
-    let types = c.args.prog.now.types in
-    let m₁ = c.lower_link.new.code in
-    let kept = c.loop-operand.invariant.0 types g c.args.first c.args.to c.args.free c.args.code.now in
-    subst (λ (z : Made). IfOk c.lower_link.result (λ found. MatchOption found (m₁ ≡ z) (λ operand. make g c.args.first (expr_of types operand.now) c.args.free (c.args.free + 1) m₁ ≡ z))) (sym kept) c.lower_link.ensures.made
-
 pub lower_behind-returns-clause-below : goal.lower_behind-returns-clause-below
 lower_behind-returns-clause-below t c =
     below_more c.lower_link.result (size-Expr c.loop-operand.kept.now) (size-Expr c.args.expression.now) c.loop-operand.invariant.1 c.lower_link.ensures.below
 
-pub lower_link-returns-in_ok-put_operator-in-Convert-clause-made : goal.lower_link-returns-in_ok-put_operator-in-Convert-clause-made
-lower_link-returns-in_ok-put_operator-in-Convert-clause-made t c =
+pub lower_kept-returns-in_ok-put_operator-in-Convert-clause-made : goal.lower_kept-returns-in_ok-put_operator-in-Convert-clause-made
+lower_kept-returns-in_ok-put_operator-in-Convert-clause-made t c =
     let g = program_of c.args.prog.now in
     let types = c.args.prog.now.types in
     let w = c.in-Convert in
     converted_left g c.args.first types c.args.expression.now c.deref.result.now w.field-0 w.operand c.args.to c.args.free c.args.code.now c.put_operator.new.code w.is c.deref.ensures (c.in_ok-put_operator-in-Convert.ensures types)
 
-pub lower_link-returns-in_ok-lower_expression-in-Comma-clause-made : goal.lower_link-returns-in_ok-lower_expression-in-Comma-clause-made
-lower_link-returns-in_ok-lower_expression-in-Comma-clause-made t c =
+pub lower_kept-returns-in_ok-lower_expression-in-Comma-clause-made : goal.lower_kept-returns-in_ok-lower_expression-in-Comma-clause-made
+lower_kept-returns-in_ok-lower_expression-in-Comma-clause-made t c =
     let g = program_of c.args.prog.now in
     let types = c.args.prog.now.types in
     let w = c.in-Comma in
@@ -259,8 +245,8 @@ lower_link-returns-in_ok-put_load-in-Read-clause-made t c =
     let types = c.args.prog.now.types in
     let w = c.in-Read in
     let m₁ = c.put_load.new.code in
-    let read = read_left g c.args.first types c.args.expression.now w.access w.place c.deref-in-Read.result.now c.deref-in-Read-2.result.now c.in_ok-place_at-in-Read.field-0 c.args.to c.args.free c.args.code.now m₁ w.is c.deref-in-Read.ensures c.deref-in-Read-2.ensures (c.in_ok-place_at-in-Read.ensures types) (c.in_ok-put_load-in-Read.ensures types) in
-    pointer_left g c.args.first types c.pointer_of.result c.args.free m₁ (make_place g c.args.first (place_of types c.deref-in-Read-2.result.now) c.args.free m₁) (make g c.args.first (expr_of types c.args.expression.now) c.args.to c.args.free c.args.code.now) (c.pointer_of.ensures.made types g c.args.first c.args.free m₁) read
+    let read = read_left g c.args.first types c.args.expression.now w.access w.place c.deref.result.now c.deref-in-Read.result.now c.in_ok-place_at-in-Read.field-0 c.args.to c.args.free c.args.code.now m₁ w.is c.deref.ensures c.deref-in-Read.ensures (c.in_ok-place_at-in-Read.ensures types) (c.in_ok-put_load-in-Read.ensures types) in
+    pointer_left g c.args.first types c.pointer_of.result c.args.free m₁ (make_place g c.args.first (place_of types c.deref-in-Read.result.now) c.args.free m₁) (make g c.args.first (expr_of types c.args.expression.now) c.args.to c.args.free c.args.code.now) (c.pointer_of.ensures.made types g c.args.first c.args.free m₁) read
 
 pub lower_link-returns-in_ok-put-in-Address-clause-made : goal.lower_link-returns-in_ok-put-in-Address-clause-made
 lower_link-returns-in_ok-put-in-Address-clause-made t c =
@@ -280,8 +266,8 @@ lower_link-returns-in_ok-lower_expression-in-Move-clause-made t c =
     let types = c.args.prog.now.types in
     let w = c.in-Move in
     let m = c.args.code.now in
-    let m₁ = c.put_operator-in-Move.new.code in
-    let m₂ = c.lower_expression-in-Move.new.code in
+    let m₁ = c.put_operator.new.code in
+    let m₂ = c.lower_expression.new.code in
     let above = c.in_ok-above-in-Move.above in
     let further = c.in_ok-next-in-Move.field-0 in
     let second = c.in_ok-lower_expression-in-Move.ensures ∙ ap (λ (x : Expr). make g c.args.first (expr_of types x) above further m₁) c.deref-in-Move.ensures in

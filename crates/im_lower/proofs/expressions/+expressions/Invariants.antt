@@ -20,8 +20,9 @@ invariant-lower_expression-loop-operand l =
     ≡ make (program_of l.prog) l.first (expr_of l.prog.types l.rest) l.to l.free l.code)
     × (size-Expr l.rest ≤ size-Expr l.expression)
 
--- a cast to `void` puts nothing
+-- what is left of the code is that of what is kept
 abbrev pub invariant-lower_behind-loop-operand : goal.invariant-lower_behind-loop-operand
 invariant-lower_behind-loop-operand l =
-    ((types : Table) (g : Prog) (first to free : ℕ) (m : Made) → make g first (expr_of types l.expression) to free m ≡ make g first (expr_of types l.kept) to free m)
+    (make (program_of l.prog) l.first (expr_of l.prog.types l.kept) l.to l.free l.code
+    ≡ make (program_of l.prog) l.first (expr_of l.prog.types l.expression) l.to l.free l.initial.code)
     × (size-Expr l.kept ≤ size-Expr l.expression)
