@@ -1,9 +1,14 @@
 //! The derivations that typedef names stand for (C11 6.2.5p20).
 ghost use Rattle.std.specs.Prelude.{◌≡◌, ◌+◌, ◌∷◌, [], IfOk, OnOk, length, nat_lt};
-ghost use Rattle.im_ctree.specs.Shape.{declarator_of, core_of, init_declarators_of, external_of, externals_of, tree_of};
+ghost use Rattle.im_ctree.specs.Shape.{declarator_of, core_of, init_declarators_of, external_of};
+ghost use Rattle.im_ctree.specs.Shape.{externals_of, tree_of};
 ghost use Rattle.im_ctree_parts.specs.Lists.{list_from, stars_in, suffixes_from};
 ghost use Rattle.im_check_outline.specs.im_rules.Outline.{typedef_in as typedef_name_in};
-ghost use Rattle.im_check_counts.specs.Derivations.{derivations_by, own_derivations, inner_derivations, derived_from, derived_as, derived_in, derived_by, derived_of, with_derived as with_name, known_of, IsWalked, IsDeepIn};
+ghost use Rattle.im_check_counts.specs.Derivations.{derivations_by, own_derivations};
+ghost use Rattle.im_check_counts.specs.Derivations.{inner_derivations, derived_from, derived_as};
+ghost use Rattle.im_check_counts.specs.Derivations.{derived_in, derived_by, derived_of};
+ghost use Rattle.im_check_counts.specs.Derivations.{with_derived as with_name, known_of, IsWalked};
+ghost use Rattle.im_check_counts.specs.Derivations.{IsDeepIn};
 
 use im_check_name_map::NameMap;
 use im_check_outline::{is_typedef, name_of, typedef_in};

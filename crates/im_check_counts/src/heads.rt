@@ -1,7 +1,8 @@
 //! The functions that declarators at file scope declare.
 ghost use Rattle.std.specs.Prelude.{◌≡◌, ◌++◌, ◌∷◌, [], if◌then◌else◌, IfOk, OnOk};
 ghost use Rattle.im_ctree.specs.Tree as t;
-ghost use Rattle.im_ctree.specs.Shape.{declarator_of, init_declarators_of, external_of, externals_of, tree_of};
+ghost use Rattle.im_ctree.specs.Shape.{declarator_of, init_declarators_of, external_of};
+ghost use Rattle.im_ctree.specs.Shape.{externals_of, tree_of};
 ghost use Rattle.im_check_outline.specs.Walked.{nearest_of};
 ghost use Rattle.im_rules_limits.specs.Limits as m;
 ghost use Rattle.im_check_counts.specs.Heads.{head_of, heads_in};

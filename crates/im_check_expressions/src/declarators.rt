@@ -1,8 +1,11 @@
 //! What declarators declare (C11 6.7.6).
 ghost use Rattle.std.specs.Prelude.{MatchResult, ◌≡◌};
 ghost use Rattle.im_ctree.specs.Shape.{declarator_of, core_of};
-ghost use Rattle.im_check_expression_parts.specs.im_rules.Breaks.{a_declarator, a_core, maybe_declarator};
-ghost use Rattle.im_check_expression_parts.specs.im_rules.Strings.{strings_may, strings_of_declarator, strings_of_core};
+ghost use Rattle.im_check_expression_parts.specs.im_rules.Breaks.{a_declarator, a_core};
+ghost use Rattle.im_check_expression_parts.specs.im_rules.Breaks.{maybe_declarator};
+ghost use Rattle.im_check_expression_parts.specs.im_rules.Strings.{strings_may};
+ghost use Rattle.im_check_expression_parts.specs.im_rules.Strings.{strings_of_declarator};
+ghost use Rattle.im_check_expression_parts.specs.im_rules.Strings.{strings_of_core};
 ghost use Rattle.im_check_expression_parts.specs.im_rules.Typed.{MayDeclare, Declares, DeclaresIn};
 ghost use Rattle.im_check_expression_parts.specs.im_rules_limits.Limits.{IsWithin};
 ghost use Rattle.im_ctree_parts.specs.Lists.{declarator_from};

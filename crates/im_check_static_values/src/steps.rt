@@ -1,6 +1,7 @@
 //! The steps from a static to a place in it: members and moves, of which chains may have any
 //! number (C11 6.6p9).
-ghost use Rattle.std.specs.Prelude.{◌≡◌, ◌+◌, ◌≤◌, ◌<◌, ℕ, pos, Option, Some, None, if◌then◌else◌, IfOk, MatchResult};
+ghost use Rattle.std.specs.Prelude.{◌≡◌, ◌+◌, ◌≤◌, ◌<◌, ℕ, pos, Option, Some, None, if◌then◌else◌};
+ghost use Rattle.std.specs.Prelude.{IfOk, MatchResult};
 ghost use Rattle.im_ctype.specs.Table.{Table};
 ghost use Rattle.im_typed.specs.ProgramOf as q;
 ghost use Rattle.im_typed.specs.declared.expression.Expr.{size-Expr};

@@ -2,8 +2,10 @@
 ghost use Rattle.std.specs.Prelude.{◌≡◌, ◌+◌, length, IfOk};
 ghost use Rattle.im_ctree.specs.Tree as t;
 ghost use Rattle.im_ctree.specs.Shape.{declarator_of, core_of};
-ghost use Rattle.im_rules.specs.Strings.{strings_of_declarator, strings_of_core, strings_of_suffixes, strings_may, strings_of_parameters};
-ghost use Rattle.im_ctree_parts.specs.Lists.{suffixes_from, with_suffix, declarator_from, parameters_from, with_parameter};
+ghost use Rattle.im_rules.specs.Strings.{strings_of_declarator, strings_of_core};
+ghost use Rattle.im_rules.specs.Strings.{strings_of_suffixes, strings_may, strings_of_parameters};
+ghost use Rattle.im_ctree_parts.specs.Lists.{suffixes_from, with_suffix, declarator_from};
+ghost use Rattle.im_ctree_parts.specs.Lists.{parameters_from, with_parameter};
 
 use crate::expression::behind_expression_if_any;
 use crate::specifier::behind_specifiers;

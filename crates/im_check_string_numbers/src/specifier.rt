@@ -1,8 +1,12 @@
 //! Specifiers, with the members and enumerators that stand in them.
 ghost use Rattle.std.specs.Prelude.{◌≡◌, ◌+◌, length, IfOk};
 ghost use Rattle.im_ctree.specs.Tree as t;
-ghost use Rattle.im_rules.specs.Strings.{strings_specified, strings_listed, strings_of_specifier, strings_of_members, strings_of_enumerators, strings_of_declarators};
-ghost use Rattle.im_ctree_parts.specs.Lists.{specifiers_in, list_from, specifier_in, members_from, with_member, enumerators_from, with_enumerator, declarators_from};
+ghost use Rattle.im_rules.specs.Strings.{strings_specified, strings_listed, strings_of_specifier};
+ghost use Rattle.im_rules.specs.Strings.{strings_of_members, strings_of_enumerators};
+ghost use Rattle.im_rules.specs.Strings.{strings_of_declarators};
+ghost use Rattle.im_ctree_parts.specs.Lists.{specifiers_in, list_from, specifier_in, members_from};
+ghost use Rattle.im_ctree_parts.specs.Lists.{with_member, enumerators_from, with_enumerator};
+ghost use Rattle.im_ctree_parts.specs.Lists.{declarators_from};
 
 use crate::declarator::behind_declarator;
 use crate::expression::behind_expression_if_any;

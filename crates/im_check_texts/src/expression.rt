@@ -2,7 +2,8 @@
 //! those of the texts, in source order.
 ghost use Rattle.std.specs.Prelude.{◌≡◌, ◌++◌, OnOk};
 ghost use Rattle.im_ctree.specs.Shape.{type_name_of};
-ghost use Rattle.im_check_texts.specs.im_rules.Strings.{strings_in, strings_among, strings_maybe, strings_named};
+ghost use Rattle.im_check_texts.specs.im_rules.Strings.{strings_in, strings_among, strings_maybe};
+ghost use Rattle.im_check_texts.specs.im_rules.Strings.{strings_named};
 ghost use Rattle.im_ctree_parts.specs.Lists.{expression_in, expressions_from, maybe_from};
 ghost use Rattle.im_check_string_numbers.specs.Chains.{before_first, behind_first};
 ghost use Rattle.im_check_texts.specs.Texts.{texts_in};

@@ -4,7 +4,8 @@ ghost use Rattle.std.specs.Prelude.{◌≡◌, ◌+◌, length, IfOk};
 ghost use Rattle.im_ctree.specs.Shape.{initializer_of};
 ghost use Rattle.im_ctype.specs.Table.{structs_of};
 ghost use Rattle.im_ctype.specs.Types.{members_of};
-ghost use Rattle.im_check_shapes.specs.im_rules.Initialisers.{strings_given, strings_among, side_by_side, in_order, slots_of};
+ghost use Rattle.im_check_shapes.specs.im_rules.Initialisers.{strings_given, strings_among};
+ghost use Rattle.im_check_shapes.specs.im_rules.Initialisers.{side_by_side, in_order, slots_of};
 ghost use Rattle.im_ctree_parts.specs.Lists.{initializers_from};
 ghost use Rattle.im_types.specs.Shape.{type_of};
 

@@ -3,9 +3,11 @@ ghost use Rattle.std.specs.List.{flat_map};
 ghost use Rattle.im_io.specs.Whole.{Sends};
 ghost use Rattle.im_fault.specs.declared.fault.SourceFault.TheVariants.{Line};
 ghost use Rattle.im_fault.specs.declared.fault.Subject.{Subject};
-ghost use Rattle.im_cmd_check.specs.Message.{caret_line, line_message, shown_line, source_message, under};
+ghost use Rattle.im_cmd_check.specs.Message.{caret_line, line_message, shown_line, source_message};
+ghost use Rattle.im_cmd_check.specs.Message.{under};
 ghost use Rattle.im_cmd_check.specs.Reading.{reading_of};
-ghost use Rattle.im_cmd_check.specs.Sentences.{fault_text, told, rule_sentence as rule_sentence_of, syntax_sentence as syntax_sentence_of};
+ghost use Rattle.im_cmd_check.specs.Sentences.{fault_text, told, rule_sentence as rule_sentence_of};
+ghost use Rattle.im_cmd_check.specs.Sentences.{syntax_sentence as syntax_sentence_of};
 
 use crate::reading::{Reading, presumed};
 use crate::runs::{Run, front_run, part_of, rest_of};

@@ -1,5 +1,12 @@
 ghost use Rattle.std.specs.Prelude.{◌≡◌, ◌<◌, ◌≤◌, ◌+◌, ◌^◌, ℕ, drop, length};
-ghost use Rattle.im_cmd_check.specs.Reading.{begins_marker as marker_begins, begins_quoted as quoted_begins, behind_number as behind_digits, enter as next_reading, marker_digits as digits_of_marker, marked_line as line_marked, marked_name as name_marked, presumed as presumed_reading, quoted_or as name_quoted_or, reading_of};
+ghost use Rattle.im_cmd_check.specs.Reading.{begins_marker as marker_begins};
+ghost use Rattle.im_cmd_check.specs.Reading.{begins_quoted as quoted_begins};
+ghost use Rattle.im_cmd_check.specs.Reading.{behind_number as behind_digits, enter as next_reading};
+ghost use Rattle.im_cmd_check.specs.Reading.{marker_digits as digits_of_marker};
+ghost use Rattle.im_cmd_check.specs.Reading.{marked_line as line_marked};
+ghost use Rattle.im_cmd_check.specs.Reading.{marked_name as name_marked};
+ghost use Rattle.im_cmd_check.specs.Reading.{presumed as presumed_reading};
+ghost use Rattle.im_cmd_check.specs.Reading.{quoted_or as name_quoted_or, reading_of};
 
 use crate::number::read_number;
 use crate::runs::{Run, behind_run, front_run};

@@ -1,5 +1,10 @@
 ghost use Rattle.std.specs.Prelude.{◌≡◌};
-ghost use Rattle.im_cmd_check.specs.Sentences.{closing as closing_of, limit_sentence as limit_sentence_of, opening as opening_of, rule_sentence as rule_sentence_of, syntax_sentence as syntax_sentence_of, within as within_of};
+ghost use Rattle.im_cmd_check.specs.Sentences.{closing as closing_of};
+ghost use Rattle.im_cmd_check.specs.Sentences.{limit_sentence as limit_sentence_of};
+ghost use Rattle.im_cmd_check.specs.Sentences.{opening as opening_of};
+ghost use Rattle.im_cmd_check.specs.Sentences.{rule_sentence as rule_sentence_of};
+ghost use Rattle.im_cmd_check.specs.Sentences.{syntax_sentence as syntax_sentence_of};
+ghost use Rattle.im_cmd_check.specs.Sentences.{within as within_of};
 
 use im_fault::Quantity;
 

@@ -4,7 +4,8 @@ ghost use Rattle.im_io.specs.Whole.{Sends};
 ghost use Rattle.im_mem.specs.Map.{code_start};
 ghost use Rattle.im_rv.specs.Decode.{decode as decoded_word};
 ghost use Rattle.im_cmd_lines.specs.Numerals.{hex_word};
-ghost use Rattle.im_cmd_lines.specs.Dumps.{dump_lines, form_line, header_lines, instruction_text, object_line, word_line, word_lines};
+ghost use Rattle.im_cmd_lines.specs.Dumps.{dump_lines, form_line, header_lines, instruction_text};
+ghost use Rattle.im_cmd_lines.specs.Dumps.{object_line, word_line, word_lines};
 
 use crate::instruction::send_instruction;
 use crate::numerals::hex_text;

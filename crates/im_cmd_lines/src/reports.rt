@@ -2,7 +2,8 @@ ghost use Rattle.std.specs.Prelude.{◌++◌, codes};
 ghost use Rattle.std.specs.List.{flat_map};
 ghost use Rattle.im_io.specs.Whole.{Sends};
 ghost use Rattle.im_cmd_lines.specs.Builds.{frame_line};
-ghost use Rattle.im_cmd_lines.specs.Reports.{cause_text, cut_line, place_text, report_head, report_lines};
+ghost use Rattle.im_cmd_lines.specs.Reports.{cause_text, cut_line, place_text, report_head};
+ghost use Rattle.im_cmd_lines.specs.Reports.{report_lines};
 
 use crate::builds::send_frame_lines;
 use crate::numerals::hex_text;

@@ -3,7 +3,8 @@ ghost use Rattle.std.specs.List.{flat_map};
 ghost use Rattle.std.specs.Fmt.{signed_decimal};
 ghost use Rattle.im_io.specs.Whole.{Sends};
 ghost use Rattle.im_num.specs.Variables.{variable_of};
-ghost use Rattle.im_cmd_lines.specs.Variables.{cell_text, object_name, variable_line, variable_lines};
+ghost use Rattle.im_cmd_lines.specs.Variables.{cell_text, object_name, variable_line};
+ghost use Rattle.im_cmd_lines.specs.Variables.{variable_lines};
 
 use im_image::Object;
 use im_io::{Failed, Sink, send, send_pieces};

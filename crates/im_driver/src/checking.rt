@@ -2,7 +2,8 @@ ghost use Rattle.std.specs.Prelude.{◌≡◌, ◌<◌, ◌^◌, length, MatchRe
 ghost use Rattle.im_ctree.specs.Tree as t;
 ghost use Rattle.im_ctree.specs.Shape.{tree_of};
 ghost use Rattle.im_driver.specs.Refused.{IsRefusedFor};
-ghost use Rattle.im_check_counts.specs.Derivations.{derived_as, derived_names, IsFirstDeep, IsShallowUnit};
+ghost use Rattle.im_check_counts.specs.Derivations.{derived_as, derived_names, IsFirstDeep};
+ghost use Rattle.im_check_counts.specs.Derivations.{IsShallowUnit};
 ghost use Rattle.im_driver.specs.Steps.{IsReady, IsTooDeep, declared_at, refused_at};
 
 use crate::laws::{program_law, written_law};

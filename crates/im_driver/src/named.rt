@@ -1,4 +1,5 @@
-ghost use Rattle.std.specs.Prelude.{◌≡◌, ◌<◌, ◌≤◌, ℕ, List, Option, Some, MatchResult, length, slice_get};
+ghost use Rattle.std.specs.Prelude.{◌≡◌, ◌<◌, ◌≤◌, ℕ, List, Option, Some, MatchResult, length};
+ghost use Rattle.std.specs.Prelude.{slice_get};
 ghost use Rattle.im_mem.specs.Map.{stack_capacity, output_capacity};
 ghost use Rattle.im_typed.specs.declared.program.Func.{Func as FuncOf};
 ghost use Rattle.im_compile.specs.Faults.{IsFaultOf};

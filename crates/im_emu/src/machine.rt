@@ -185,7 +185,8 @@ impl<M: Memory> Machine<M> {
 }
 
 impl Machine<PagedMem> {
-    ghost use Rattle.std.specs.Prelude.{◌≡◌, ◌≤◌, ◌<◌, length, IfOk, OnOk, IfErr, IsOkUnless, Err, None};
+    ghost use Rattle.std.specs.Prelude.{◌≡◌, ◌≤◌, ◌<◌, length, IfOk, OnOk, IfErr, IsOkUnless, Err};
+    ghost use Rattle.std.specs.Prelude.{None};
     ghost use Rattle.im_mem.specs.Memory.{Mem, view};
     ghost use Rattle.im_mem.specs.Map.{input_capacity};
     ghost use Rattle.im_image.specs.declared.version.Version.{Version};

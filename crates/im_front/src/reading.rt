@@ -1,6 +1,7 @@
 ghost use Rattle.std.specs.Prelude.{◌≡◌, ◌<◌, ◌^◌, length, IfOk, MatchResult};
 ghost use Rattle.im_lex.specs.Lexing.{line_at};
-ghost use Rattle.im_front.specs.Reading.{IsRead, IsTokenFault, AreTokens, of_token, token_spans, place_at, place_among};
+ghost use Rattle.im_front.specs.Reading.{IsRead, IsTokenFault, AreTokens, of_token, token_spans};
+ghost use Rattle.im_front.specs.Reading.{place_at, place_among};
 
 use im_ctree::Tree;
 use im_fault::{LineFault, Place, Quantity, SourceFault};

@@ -74,7 +74,8 @@ fn find_there(files: &[MemFile], name: &str) -> Option<usize>
 }
 
 impl MemShelf {
-    ghost use Rattle.std.specs.Prelude.{◌≡◌, None, Some, [], IfSome, MatchOption, map, string_bytes, IfOk};
+    ghost use Rattle.std.specs.Prelude.{◌≡◌, None, Some, [], IfSome, MatchOption, map};
+    ghost use Rattle.std.specs.Prelude.{string_bytes, IfOk};
     ghost use Rattle.im_io.specs.Shelf as shelf;
     ghost use Rattle.im_io.specs.MemFiles.{files_of, given_file};
     ghost use Rattle.im_io.specs.declared.mem_shelf.Place.TheVariants as place;
@@ -162,10 +163,13 @@ impl MemShelf {
 
 impl Shelf for MemShelf {
     ghost use Rattle.std.specs.Prelude.{◌≡◌, ◌↔◌, ◌⊎◌, None, IfOk, IsErr, IsErrOf, length, min};
-    ghost use Rattle.im_io.specs.Shelf.{WhereTold, OpenCounts, mode_opened, Opens, ReadCounts, Reads, WriteCounts, mode_created, Creates, Writes, Fits, TakesSome, Reading, Writing};
+    ghost use Rattle.im_io.specs.Shelf.{WhereTold, OpenCounts, mode_opened, Opens, ReadCounts};
+    ghost use Rattle.im_io.specs.Shelf.{Reads, WriteCounts, mode_created, Creates, Writes, Fits};
+    ghost use Rattle.im_io.specs.Shelf.{TakesSome, Reading, Writing};
     ghost use Rattle.im_io.specs.Rooms.{NothingFits};
     ghost use Rattle.im_io.specs.MemFiles.{files_of, left, IsGiven};
-    ghost use Rattle.im_io.specs.MemShelves.{state_of, Fails, file_open, bytes_left, CallMade, faults_after, read_faults_after, absences_after};
+    ghost use Rattle.im_io.specs.MemShelves.{state_of, Fails, file_open, bytes_left, CallMade};
+    ghost use Rattle.im_io.specs.MemShelves.{faults_after, read_faults_after, absences_after};
     ghost use Rattle.im_io.specs.declared.fault.OpenFault.TheVariants as open_fault;
 
     ghost state = { state_of };

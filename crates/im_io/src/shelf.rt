@@ -3,7 +3,9 @@ use crate::fault::{Failed, OpenFault};
 /// Files, one open at a time.
 pub trait Shelf {
     ghost use Rattle.std.specs.Prelude.{◌≡◌};
-    ghost use Rattle.im_io.specs.Shelf.{ShelfState, Mode, WhereTold, OpenCounts, mode_opened, Opens, ReadCounts, Reads, WriteCounts, mode_created, Creates, Writes, Fits, TakesSome, Reading, Writing};
+    ghost use Rattle.im_io.specs.Shelf.{ShelfState, Mode, WhereTold, OpenCounts, mode_opened};
+    ghost use Rattle.im_io.specs.Shelf.{Opens, ReadCounts, Reads, WriteCounts, mode_created};
+    ghost use Rattle.im_io.specs.Shelf.{Creates, Writes, Fits, TakesSome, Reading, Writing};
 
     /// What the shelf tells, and its counts.
     ghost state: { Self → ShelfState };

@@ -1,7 +1,8 @@
 ghost use Rattle.std.specs.Prelude.{◌≡◌, ◌+◌, max, map, [], length, IfOk, OnOk};
 ghost use Rattle.im_block.specs.declared.code.Block.{Block};
 ghost use Rattle.im_lower_relation.specs.Codes.{ends};
-ghost use Rattle.im_lower_plain.specs.Made.{Made, above_exit, above_line, above_place, close, point_of, put, put_read, put_write, start, turn};
+ghost use Rattle.im_lower_plain.specs.Made.{Made, above_exit, above_line, above_place, close};
+ghost use Rattle.im_lower_plain.specs.Made.{point_of, put, put_read, put_write, start, turn};
 
 use im_block::{Block, Exit, Line, Place};
 use im_num::{Kind, NoMemory, beyond_memory};

@@ -2,7 +2,8 @@ ghost use Rattle.std.specs.Prelude.{◌≡◌, ◌+◌, ◌++◌, IfOk, OnOk, ma
 ghost use Rattle.im_ctype.specs.Table.{Table};
 ghost use Rattle.im_typed.specs.Meaning.{given_offsets, is_among};
 ghost use Rattle.im_typed.specs.ProgramOf.{access_of, expr_of, piece_of, program_of};
-ghost use Rattle.im_lower_plain.specs.MakeStatement.{cell_offsets, cells_there, make_pieces, offsets_of, put_piece, put_rest, put_zero};
+ghost use Rattle.im_lower_plain.specs.MakeStatement.{cell_offsets, cells_there, make_pieces};
+ghost use Rattle.im_lower_plain.specs.MakeStatement.{offsets_of, put_piece, put_rest, put_zero};
 ghost use Rattle.im_lower_relation.specs.Statements.{zero_line};
 ghost use Rattle.im_lower.specs.Marks.{AreMarks};
 

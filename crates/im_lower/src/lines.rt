@@ -1,7 +1,8 @@
 ghost use Rattle.std.specs.Prelude.{◌≡◌, ◌+◌, IfOk, OnOk};
 ghost use Rattle.im_typed.specs.ProgramOf.{access_of};
 ghost use Rattle.im_ctype.specs.Table.{Table};
-ghost use Rattle.im_lower_plain.specs.Make.{put_change, put_increment, put_load, put_reads, put_writes};
+ghost use Rattle.im_lower_plain.specs.Make.{put_change, put_increment, put_load, put_reads};
+ghost use Rattle.im_lower_plain.specs.Make.{put_writes};
 
 use crate::builder::{Builder, sum};
 use crate::places::{changed_kind, further_in};

@@ -1,4 +1,5 @@
-ghost use Rattle.im_pack_laws.specs.Laws.{LoadableLaw, LoadsLaw, NamedLaw, HoldsObjectsLaw, PackedLaw, PlacesLaw};
+ghost use Rattle.im_pack_laws.specs.Laws.{LoadableLaw, LoadsLaw, NamedLaw, HoldsObjectsLaw};
+ghost use Rattle.im_pack_laws.specs.Laws.{PackedLaw, PlacesLaw};
 
 /// Linked code may be packed.
 pub fn loadable_law()

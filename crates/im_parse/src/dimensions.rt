@@ -2,7 +2,8 @@
 //! make a type as deep as there are of them.
 ghost use Rattle.std.specs.Prelude.{◌≡◌, [], ◌∷◌, ◌≤◌, map, IfOk, OnOk, MatchOption};
 ghost use Rattle.im_word.specs.Shown.{shown};
-ghost use Rattle.im_parse.specs.Dimensions.{mark_sign, sign_of, sign_at, runs_behind, innermost, IsFirstDimensioned, NoneDimensioned};
+ghost use Rattle.im_parse.specs.Dimensions.{mark_sign, sign_of, sign_at, runs_behind, innermost};
+ghost use Rattle.im_parse.specs.Dimensions.{IsFirstDimensioned, NoneDimensioned};
 ghost use Rattle.im_parse.specs.DimensionRuns.{runs_of};
 
 use im_num::NoMemory;

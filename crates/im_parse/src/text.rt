@@ -4,7 +4,8 @@ ghost use Rattle.im_word.specs.Shown.{shown};
 ghost use Rattle.im_parse.specs.declared.text.ParseFault.TheVariants.{Dimensions, Memory};
 ghost use Rattle.im_ctree.specs.Shape.{tree_of};
 ghost use Rattle.im_ctree.specs.Units.{Spells};
-ghost use Rattle.im_parse.specs.Spelling.{AreWords, IsCutShort, IsParsed, earlier, IsParsedText, IsWithin, IsWholeFault};
+ghost use Rattle.im_parse.specs.Spelling.{AreWords, IsCutShort, IsParsed, earlier, IsParsedText};
+ghost use Rattle.im_parse.specs.Spelling.{IsWithin, IsWholeFault};
 
 use super::dimensions::first_dimensioned;
 use super::units::unit;

@@ -4,7 +4,8 @@ ghost use Rattle.im_word.specs.Words.{mark};
 ghost use Rattle.im_ctree.specs.Grammar.{OpensParameters};
 ghost use Rattle.im_ctree.specs.Typedefs as typedefs;
 ghost use Rattle.im_parse_core.specs.Reads.{head};
-ghost use Rattle.im_parse_expression.specs.Declaring.{GoesOn, BeginsForm, BeginsSuffix, HasName, MayBeNameless, IsNamed, specifier_tree};
+ghost use Rattle.im_parse_expression.specs.Declaring.{GoesOn, BeginsForm, BeginsSuffix, HasName};
+ghost use Rattle.im_parse_expression.specs.Declaring.{MayBeNameless, IsNamed, specifier_tree};
 
 use super::form::Form;
 use super::look::begins_specifiers;

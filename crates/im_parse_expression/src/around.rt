@@ -1,7 +1,8 @@
 ghost use Rattle.std.specs.Prelude.{◌≡◌, map};
 ghost use Rattle.im_ctree.specs.Tree as t;
 ghost use Rattle.im_ctree.specs.Shape.{declarator_of};
-ghost use Rattle.im_parse_expression.specs.Declaring.{Makes, joined, add_suffix, suffix_tree, stars_tree, suffixes_tree};
+ghost use Rattle.im_parse_expression.specs.Declaring.{Makes, joined, add_suffix, suffix_tree};
+ghost use Rattle.im_parse_expression.specs.Declaring.{stars_tree, suffixes_tree};
 ghost use Rattle.im_parse_core.specs.Lists.{before};
 
 use im_ctree::{Core, Declarator, Star, Suffix};

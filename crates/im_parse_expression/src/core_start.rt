@@ -1,4 +1,5 @@
-ghost use Rattle.std.specs.Prelude.{◌≡◌, ◌<◌, ◌^◌, ◌↔◌, Some, IsTrue, true, MatchOption, length, map, drop};
+ghost use Rattle.std.specs.Prelude.{◌≡◌, ◌<◌, ◌^◌, ◌↔◌, Some, IsTrue, true, MatchOption, length};
+ghost use Rattle.std.specs.Prelude.{map, drop};
 ghost use Rattle.im_word.specs.Words.{Name, name};
 ghost use Rattle.im_parse_core.specs.Reads.{head};
 ghost use Rattle.im_parse_core.specs.Places.{IsAt};

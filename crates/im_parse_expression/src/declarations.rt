@@ -5,7 +5,10 @@ ghost use Rattle.im_ctree.specs.Shape.{declaration_of, declarator_of};
 ghost use Rattle.im_ctree.specs.Units.{IsDeclaration, IsInitDeclarators, IsMaybeInitializer};
 ghost use Rattle.im_parse_expression.specs.Parsing.{Parses, Below, Anything, Closed};
 ghost use Rattle.im_parse_expression.specs.Declaring.{AfterParameter};
-ghost use Rattle.im_parse_expression.specs.Initializing.{InitsBehind, IsInitDeclarator, init_declarator_tree, init_declarators_tree, maybe_initializer_tree};
+ghost use Rattle.im_parse_expression.specs.Initializing.{InitsBehind, IsInitDeclarator};
+ghost use Rattle.im_parse_expression.specs.Initializing.{init_declarator_tree};
+ghost use Rattle.im_parse_expression.specs.Initializing.{init_declarators_tree};
+ghost use Rattle.im_parse_expression.specs.Initializing.{maybe_initializer_tree};
 
 use super::declarators::declarator;
 use super::form::Form;

@@ -3,7 +3,9 @@ ghost use Rattle.im_word.specs.Shown.{shown};
 ghost use Rattle.im_ctree.specs.Shape.{declarator_of};
 ghost use Rattle.im_ctree.specs.Grammar.{IsSuffixes};
 ghost use Rattle.im_parse_expression.specs.Parsing.{Parses, Below, Anything};
-ghost use Rattle.im_parse_expression.specs.Declaring.{IsForm, IsMaybeForm, IsSuffix, AfterDeclarator, AfterParameter, maybe_tree, suffix_tree, suffixes_tree};
+ghost use Rattle.im_parse_expression.specs.Declaring.{IsForm, IsMaybeForm, IsSuffix};
+ghost use Rattle.im_parse_expression.specs.Declaring.{AfterDeclarator, AfterParameter, maybe_tree};
+ghost use Rattle.im_parse_expression.specs.Declaring.{suffix_tree, suffixes_tree};
 
 use super::ahead::{declarator_ahead, suffix_ahead};
 use super::around::{around, unstarred};

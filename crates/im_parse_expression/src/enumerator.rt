@@ -3,7 +3,8 @@ ghost use Rattle.im_tok.specs.declared.punctuator.Punctuator.TheVariants.{CloseB
 ghost use Rattle.im_word.specs.Shown.{shown};
 ghost use Rattle.im_ctree.specs.Grammar.{IsEnumerators};
 ghost use Rattle.im_parse_expression.specs.Parsing.{Parses, Below, Anything, Closed};
-ghost use Rattle.im_parse_expression.specs.Declaring.{IsEnumerator, enumerator_tree, enumerators_tree};
+ghost use Rattle.im_parse_expression.specs.Declaring.{IsEnumerator, enumerator_tree};
+ghost use Rattle.im_parse_expression.specs.Declaring.{enumerators_tree};
 
 use super::expressions::conditional;
 use super::look::{expect_mark, expect_name};

@@ -1,7 +1,10 @@
-ghost use Rattle.std.specs.Prelude.{◌≡◌, ◌<◌, ◌≤◌, ◌+◌, ◌^◌, ◌↔◌, IsTrue, MatchOption, MatchResult, false, length, map};
+ghost use Rattle.std.specs.Prelude.{◌≡◌, ◌<◌, ◌≤◌, ◌+◌, ◌^◌, ◌↔◌, IsTrue, MatchOption, MatchResult};
+ghost use Rattle.std.specs.Prelude.{false, length, map};
 ghost use Rattle.im_word.specs.Shown.{shown};
-ghost use Rattle.im_ctree.specs.Grammar.{IsExpression, IsAssignment, IsConditional, IsBinary, IsCast, IsUnary};
-ghost use Rattle.im_parse_expression.specs.Parsing.{Parses, Below, IsSized, tree_of, number_of, is_looser};
+ghost use Rattle.im_ctree.specs.Grammar.{IsExpression, IsAssignment, IsConditional, IsBinary};
+ghost use Rattle.im_ctree.specs.Grammar.{IsCast, IsUnary};
+ghost use Rattle.im_parse_expression.specs.Parsing.{Parses, Below, IsSized, tree_of, number_of};
+ghost use Rattle.im_parse_expression.specs.Parsing.{is_looser};
 ghost use Rattle.im_parse_expression.specs.Casts.{CastBegins, NoCastBegins, StandCasts};
 ghost use Rattle.im_parse_core.specs.Parts.{Made};
 ghost use Rattle.im_parse_core.specs.Places.{StopsAt};

@@ -1,4 +1,5 @@
-ghost use Rattle.std.specs.Prelude.{◌≡◌, ◌<◌, ◌^◌, ◌↔◌, ℕ, List, Some, IsTrue, MatchOption, MatchResult, length, map, drop};
+ghost use Rattle.std.specs.Prelude.{◌≡◌, ◌<◌, ◌^◌, ◌↔◌, ℕ, List, Some, IsTrue, MatchOption};
+ghost use Rattle.std.specs.Prelude.{MatchResult, length, map, drop};
 ghost use Rattle.im_tok.specs.declared.punctuator.Punctuator.{Punctuator};
 ghost use Rattle.im_word.specs.Shown.{shown};
 ghost use Rattle.im_word.specs.Words.{name, mark};
@@ -7,7 +8,8 @@ ghost use Rattle.im_parse_core.specs.Reads.{head};
 ghost use Rattle.im_parse_core.specs.Places.{IsAt};
 ghost use Rattle.im_ctree.specs.Operators as op;
 ghost use Rattle.im_ctree.specs.Follow.{keyword_specifier};
-ghost use Rattle.im_parse_expression.specs.Parsing.{OperatorAt, NoOperator, BeginsSpecifiers, IsMarkAt};
+ghost use Rattle.im_parse_expression.specs.Parsing.{OperatorAt, NoOperator, BeginsSpecifiers};
+ghost use Rattle.im_parse_expression.specs.Parsing.{IsMarkAt};
 ghost use Rattle.im_parse_expression.specs.Declaring.{WordAt, NoWord};
 
 use super::table::{

@@ -1,8 +1,14 @@
 ghost use Rattle.std.specs.Prelude.{◌≡◌, Some, None};
 ghost use Rattle.im_ctree.specs.Tree as t;
-ghost use Rattle.im_ctree.specs.Shape.{specifiers_of, declarator_of, type_name_of, optional_expression_of, initializer_of};
+ghost use Rattle.im_ctree.specs.Shape.{specifiers_of, declarator_of, type_name_of};
+ghost use Rattle.im_ctree.specs.Shape.{optional_expression_of, initializer_of};
 ghost use Rattle.im_parse_expression.specs.Initializing.{initializers_tree};
-ghost use Rattle.im_parse_expression.specs.Declaring.{Makes, specifier_tree, specifier_list, member_tree, members_tree, declarators_tree, enumerator_tree, enumerators_tree, stars_tree, suffix_tree, suffixes_tree, one_array, one_function, parameter_tree, parameters_tree, maybe_tree};
+ghost use Rattle.im_parse_expression.specs.Declaring.{Makes, specifier_tree, specifier_list};
+ghost use Rattle.im_parse_expression.specs.Declaring.{member_tree, members_tree, declarators_tree};
+ghost use Rattle.im_parse_expression.specs.Declaring.{enumerator_tree, enumerators_tree};
+ghost use Rattle.im_parse_expression.specs.Declaring.{stars_tree, suffix_tree, suffixes_tree};
+ghost use Rattle.im_parse_expression.specs.Declaring.{one_array, one_function, parameter_tree};
+ghost use Rattle.im_parse_expression.specs.Declaring.{parameters_tree, maybe_tree};
 
 use im_ctree::{
     Core, Declarator, Enumerator, Expression, Initializer, Member, Parameter, Specifier,

@@ -3,7 +3,8 @@ ghost use Rattle.im_tok.specs.declared.punctuator.Punctuator.TheVariants.{CloseB
 ghost use Rattle.im_word.specs.Shown.{shown};
 ghost use Rattle.im_ctree.specs.Grammar.{IsMembers};
 ghost use Rattle.im_parse_expression.specs.Parsing.{Parses, Anything, Closed};
-ghost use Rattle.im_parse_expression.specs.Declaring.{IsMember, IsDeclarators, member_tree, members_tree, declarators_tree};
+ghost use Rattle.im_parse_expression.specs.Declaring.{IsMember, IsDeclarators, member_tree};
+ghost use Rattle.im_parse_expression.specs.Declaring.{members_tree, declarators_tree};
 
 use super::declarators::declarator;
 use super::form::Form;

@@ -4,7 +4,8 @@ ghost use Rattle.im_parse_core.specs.Reads.{head};
 ghost use Rattle.im_tok.specs.declared.punctuator.Punctuator.TheVariants.{OpenParen, CloseParen};
 ghost use Rattle.im_word.specs.Shown.{shown};
 ghost use Rattle.im_ctree.specs.Grammar.{IsPostfix, IsPrimary, IsArguments};
-ghost use Rattle.im_parse_expression.specs.Parsing.{Parses, Below, Anything, Closed, Postfixes, tree_of, items_tree};
+ghost use Rattle.im_parse_expression.specs.Parsing.{Parses, Below, Anything, Closed, Postfixes};
+ghost use Rattle.im_parse_expression.specs.Parsing.{tree_of, items_tree};
 
 use super::build;
 use super::expressions::{assignment, expression};

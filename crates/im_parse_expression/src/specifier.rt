@@ -7,7 +7,8 @@ ghost use Rattle.im_ctree.specs.Typedefs.{has_type};
 ghost use Rattle.im_ctree.specs.Grammar.{IsSpecifier, IsSpecifiers};
 ghost use Rattle.im_parse_core.specs.Reads.{head};
 ghost use Rattle.im_parse_expression.specs.Parsing.{Parses};
-ghost use Rattle.im_parse_expression.specs.Declaring.{GoesOn, Unbraced, AfterSpecifiers, IsStructRest, IsEnumRest, specifier_tree};
+ghost use Rattle.im_parse_expression.specs.Declaring.{GoesOn, Unbraced, AfterSpecifiers};
+ghost use Rattle.im_parse_expression.specs.Declaring.{IsStructRest, IsEnumRest, specifier_tree};
 
 use super::ahead::{adds_type, specifier_ahead};
 use super::enumerator::closed_enumerators;

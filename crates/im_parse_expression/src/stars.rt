@@ -2,7 +2,8 @@ ghost use Rattle.std.specs.Prelude.{◌<◌, ◌^◌, length, map};
 ghost use Rattle.im_word.specs.Shown.{shown};
 ghost use Rattle.im_parse_core.specs.Places.{ReadsAt};
 ghost use Rattle.im_parse_expression.specs.Parsing.{Parses};
-ghost use Rattle.im_parse_expression.specs.Declaring.{Stars, AfterStars, Consts, AfterConsts, stars_tree};
+ghost use Rattle.im_parse_expression.specs.Declaring.{Stars, AfterStars, Consts, AfterConsts};
+ghost use Rattle.im_parse_expression.specs.Declaring.{stars_tree};
 
 use im_ctree::Star;
 use im_parse_core::{Stop, after_keyword, after_mark};

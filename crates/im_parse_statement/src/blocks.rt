@@ -4,7 +4,8 @@ ghost use Rattle.im_word.specs.Shown.{shown};
 ghost use Rattle.im_ctree.specs.Typedefs.{names_behind_block, names_behind_items};
 ghost use Rattle.im_ctree.specs.Units.{IsBlock, IsBlockItems};
 ghost use Rattle.im_parse_expression.specs.Parsing.{Parses, Anything, Closed};
-ghost use Rattle.im_parse_statement.specs.Statements.{AfterItem, IsItem, block_tree, item_tree, items_tree, names_behind_item};
+ghost use Rattle.im_parse_statement.specs.Statements.{AfterItem, IsItem, block_tree, item_tree};
+ghost use Rattle.im_parse_statement.specs.Statements.{items_tree, names_behind_item};
 
 use super::names::declared;
 use super::statements::statement;

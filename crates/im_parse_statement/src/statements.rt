@@ -5,7 +5,8 @@ ghost use Rattle.im_ctree.specs.Typedefs.{names_behind};
 ghost use Rattle.im_ctree.specs.Units.{IsStatement};
 ghost use Rattle.im_parse_core.specs.Places.{IsAt};
 ghost use Rattle.im_parse_expression.specs.Parsing.{Parses, Anything};
-ghost use Rattle.im_parse_statement.specs.Statements.{statement_tree, AfterStatement, RestOf, ExpressionLine, BlockLine, start_keyword};
+ghost use Rattle.im_parse_statement.specs.Statements.{statement_tree, AfterStatement, RestOf};
+ghost use Rattle.im_parse_statement.specs.Statements.{ExpressionLine, BlockLine, start_keyword};
 
 use super::blocks::block;
 use super::branches::{case_statement, default_statement, if_statement, switch_statement};

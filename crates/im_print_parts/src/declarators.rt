@@ -5,7 +5,8 @@ ghost use Rattle.im_ctree.specs.Shape.{core_of, declarator_of, type_name_of};
 ghost use Rattle.im_print_relation.specs.Printed as printed;
 ghost use Rattle.im_print_parts.specs.Output.{Writes, each, known};
 ghost use Rattle.im_print_parts.specs.Parts as parts;
-ghost use Rattle.im_ctree_parts.specs.Lists.{declarator_from, declarators_from, maybe_from, parameters_from, stars_in, suffixes_from};
+ghost use Rattle.im_ctree_parts.specs.Lists.{declarator_from, declarators_from, maybe_from};
+ghost use Rattle.im_ctree_parts.specs.Lists.{parameters_from, stars_in, suffixes_from};
 
 use crate::commas::put_comma_if;
 use crate::expressions::put_at;

@@ -1,7 +1,8 @@
 ghost use Rattle.std.specs.Prelude.{◌≡◌, ◌≤◌, ◌++◌, [], ◌∷◌, OnOk, nat_le, true};
 ghost use Rattle.im_tok.specs.Numbers.{greatest};
 ghost use Rattle.im_word.specs.Words.{name, keyword, number, character, text, mark};
-ghost use Rattle.im_print_relation.specs.Text.{is_plain, byte_text, bytes_text, literal_text, suffix_text};
+ghost use Rattle.im_print_relation.specs.Text.{is_plain, byte_text, bytes_text, literal_text};
+ghost use Rattle.im_print_relation.specs.Text.{suffix_text};
 ghost use Rattle.im_print_parts.specs.Output.{Writes};
 
 use im_num::NoMemory;

@@ -6,7 +6,8 @@ ghost use Rattle.im_ctree.specs.Shape.{declarator_of};
 ghost use Rattle.im_print_relation.specs.Printed as printed;
 ghost use Rattle.im_print_parts.specs.Output.{Writes, each, known};
 ghost use Rattle.im_print_parts.specs.Parts as parts;
-ghost use Rattle.im_ctree_parts.specs.Lists.{declarators_from, enumerators_from, list_from, maybe_from, members_from};
+ghost use Rattle.im_ctree_parts.specs.Lists.{declarators_from, enumerators_from, list_from};
+ghost use Rattle.im_ctree_parts.specs.Lists.{maybe_from, members_from};
 
 use crate::commas::put_comma_if;
 use crate::declarators::{put_declarator, put_in_parentheses};

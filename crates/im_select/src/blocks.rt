@@ -1,10 +1,14 @@
-ghost use Rattle.std.specs.Prelude.{◌≡◌, ◌<◌, ◌+◌, ◌++◌, length, slice_get, slice_index, All, OnOk, IfOk, IfSome};
+ghost use Rattle.std.specs.Prelude.{◌≡◌, ◌<◌, ◌+◌, ◌++◌, length, slice_get, slice_index, All, OnOk};
+ghost use Rattle.std.specs.Prelude.{IfOk, IfSome};
 ghost use Rattle.im_rv.specs.Lines.{code_lines};
 ghost use Rattle.im_block.specs.Wellformed.{ExitThere};
 ghost use Rattle.im_alloc_placed.specs.Placed.{IsPlacedExit, IsPlacedBlock};
 ghost use Rattle.im_live.specs.Words.{entry_at, starts_have};
 ghost use Rattle.im_select.specs.Leads.{led, AreLeads};
-ghost use Rattle.im_select.specs.Emitted.{labelled, leave_code, result_code, onward_code, test_code, test_or, is_next, branch_code, ended_code, enter_code, prologue_code, taken_test, taking_code, behind_at, found_code};
+ghost use Rattle.im_select.specs.Emitted.{labelled, leave_code, result_code, onward_code};
+ghost use Rattle.im_select.specs.Emitted.{test_code, test_or, is_next, branch_code, ended_code};
+ghost use Rattle.im_select.specs.Emitted.{enter_code, prologue_code, taken_test, taking_code};
+ghost use Rattle.im_select.specs.Emitted.{behind_at, found_code};
 ghost use Rattle.im_select.specs.Given.{given};
 ghost use Rattle.im_select.specs.Places.{at_of, HasPlaces, IsTest};
 ghost use Rattle.im_select.specs.Selects.{laying_of, IsClosedBlock};

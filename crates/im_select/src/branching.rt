@@ -11,7 +11,8 @@ ghost use Rattle.im_block.specs.declared.code.Exit.TheVariants.{Branch};
 ghost use Rattle.im_block.specs.Wellformed.{ExitThere};
 ghost use Rattle.im_live.specs.Words.{has, starts_have, IsMachineLine};
 ghost use Rattle.im_select.specs.declared.branching.Test.TheVariants.{Compares};
-ghost use Rattle.im_select.specs.Emitted.{test_line, taken_by, zero_of, by_zero, taken_test, own_lines};
+ghost use Rattle.im_select.specs.Emitted.{test_line, taken_by, zero_of, by_zero, taken_test};
+ghost use Rattle.im_select.specs.Emitted.{own_lines};
 ghost use Rattle.im_select.specs.Places.{IsTest};
 
 use crate::computing::by_sign;

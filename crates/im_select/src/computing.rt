@@ -5,7 +5,10 @@ ghost use Rattle.im_rv.specs.Formats.{format_of};
 ghost use Rattle.im_rv.specs.Lines.{code_lines};
 ghost use Rattle.im_select_relation.specs.OperatorTables as tables;
 ghost use Rattle.im_select_relation.specs.OperatorTables.{operation, less_op};
-ghost use Rattle.im_select.specs.Emitted.{copied_code, converted_code, shifted_code, shift_of, shifts_code, scaled_code, scaled_register, unary_code, not_code, computed_code, less_code, not_less_code, compared_code, pointer_code, distance_code};
+ghost use Rattle.im_select.specs.Emitted.{copied_code, converted_code, shifted_code, shift_of};
+ghost use Rattle.im_select.specs.Emitted.{shifts_code, scaled_code, scaled_register, unary_code};
+ghost use Rattle.im_select.specs.Emitted.{not_code, computed_code, less_code, not_less_code};
+ghost use Rattle.im_select.specs.Emitted.{compared_code, pointer_code, distance_code};
 
 use crate::push::{on_registers, push, with_immediate};
 use crate::words::{push_constant, register};

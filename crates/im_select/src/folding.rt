@@ -1,4 +1,5 @@
-ghost use Rattle.std.specs.Prelude.{◌≡◌, ◌<◌, ◌≤◌, ◌+◌, ◌++◌, ◌∷◌, [], All, pos, drop, length, option_map, get_or, OnOk};
+ghost use Rattle.std.specs.Prelude.{◌≡◌, ◌<◌, ◌≤◌, ◌+◌, ◌++◌, ◌∷◌, [], All, pos, drop, length};
+ghost use Rattle.std.specs.Prelude.{option_map, get_or, OnOk};
 ghost use Rattle.im_num.specs.Kinds as kinds;
 ghost use Rattle.im_rv.specs.declared.format.Format.TheVariants.{Immediate, Shift};
 ghost use Rattle.im_rv.specs.Formats.{format_of};
@@ -10,7 +11,10 @@ ghost use Rattle.im_live.specs.Words.{has, IsMachineLine};
 ghost use Rattle.im_select.specs.Given.{given};
 ghost use Rattle.im_select.specs.Places.{at_of, HasPlaces, CallsBelow};
 ghost use Rattle.im_select_relation.specs.OperatorTables.{commutes};
-ghost use Rattle.im_select.specs.Emitted.{by_low, by_bits, negated, immediate_line, constant_line, is_spent, is_taken, passed_to, passed_by, constant_code, moved_code, put_code, operated_code, stored_from, way_code, behind_at};
+ghost use Rattle.im_select.specs.Emitted.{by_low, by_bits, negated, immediate_line, constant_line};
+ghost use Rattle.im_select.specs.Emitted.{is_spent, is_taken, passed_to, passed_by, constant_code};
+ghost use Rattle.im_select.specs.Emitted.{moved_code, put_code, operated_code, stored_from};
+ghost use Rattle.im_select.specs.Emitted.{way_code, behind_at};
 
 use crate::branching::lives;
 use crate::comparing::{constant_comparison, push_compared_with};

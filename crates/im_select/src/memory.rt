@@ -5,7 +5,9 @@ ghost use Rattle.im_select_relation.specs.OperatorTables.{load_op, store_op};
 ghost use Rattle.im_rv.specs.Lines.{code_lines};
 ghost use Rattle.im_store.specs.Objects.{Slot};
 ghost use Rattle.im_alloc_placed.specs.Operands.{IsHome, PlaceAtHome, PlaceExists};
-ghost use Rattle.im_select.specs.Emitted.{static_code, place_code, place_base, place_number, based_code, address_code, fetch_code, keep_code, reload_code, spill_code};
+ghost use Rattle.im_select.specs.Emitted.{static_code, place_code, place_base, place_number};
+ghost use Rattle.im_select.specs.Emitted.{based_code, address_code, fetch_code, keep_code};
+ghost use Rattle.im_select.specs.Emitted.{reload_code, spill_code};
 ghost use Rattle.im_select.specs.Given.{given};
 ghost use Rattle.im_select.specs.Places.{at_of, HasPlaces, IsDisplaced};
 

@@ -6,7 +6,8 @@ ghost use Rattle.im_select.specs.Leads.{lead, kept, AreLeads};
 ghost use Rattle.im_select.specs.Emitted.{laid_order, kept_order, laid_code, function_code};
 ghost use Rattle.im_select.specs.Given.{given};
 ghost use Rattle.im_select.specs.Places.{HasPlaces};
-ghost use Rattle.im_select.specs.Selects.{laying_of, IsClosedBlock, IsSelectable, IsFunctionCode, IsSelection};
+ghost use Rattle.im_select.specs.Selects.{laying_of, IsClosedBlock, IsSelectable, IsFunctionCode};
+ghost use Rattle.im_select.specs.Selects.{IsSelection};
 
 use crate::blocks::{block_lines, label_first, push_prologue};
 use crate::distance::Distance;

@@ -3,7 +3,8 @@ ghost use Rattle.im_num.specs.Kinds as kinds;
 ghost use Rattle.im_rv.specs.Fits.{in_bits, in_signed};
 ghost use Rattle.im_rv.specs.Steps as steps;
 ghost use Rattle.im_rv.specs.Lines.{code_lines};
-ghost use Rattle.im_select.specs.Emitted.{high_of, low_of, constant_code, displaced_code, displaced_base, adds_code};
+ghost use Rattle.im_select.specs.Emitted.{high_of, low_of, constant_code, displaced_code};
+ghost use Rattle.im_select.specs.Emitted.{displaced_base, adds_code};
 ghost use Rattle.im_select.specs.Places.{IsDisplaced};
 
 use crate::push::push;

@@ -4,7 +4,8 @@ ghost use Rattle.im_link.specs.Linking.{Grows};
 ghost use Rattle.im_select.specs.Emitted.{entry_label};
 ghost use Rattle.im_select.specs.Given.{given};
 ghost use Rattle.im_select.specs.Selects.{IsSelectable};
-ghost use Rattle.im_select_assemble.specs.Assembled.{IsAssemblable, AddsSelection, AddsNamedFunctions};
+ghost use Rattle.im_select_assemble.specs.Assembled.{IsAssemblable, AddsSelection};
+ghost use Rattle.im_select_assemble.specs.Assembled.{AddsNamedFunctions};
 
 use crate::program::Program;
 use crate::runtime::push_part;

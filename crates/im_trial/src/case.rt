@@ -1,6 +1,8 @@
-ghost use Rattle.std.specs.Prelude.{◌≡◌, ◌<◌, [], ◌∷◌, None, Some, IfSome, MatchResult, codes, pos, string_bytes, unwrap_or};
+ghost use Rattle.std.specs.Prelude.{◌≡◌, ◌<◌, [], ◌∷◌, None, Some, IfSome, MatchResult, codes, pos};
+ghost use Rattle.std.specs.Prelude.{string_bytes, unwrap_or};
 ghost use Rattle.im_trial.specs.Escapes.{quoted as quoted_of};
-ghost use Rattle.im_trial.specs.Finding.{EndsUnless, Finds, IsEnded, Parts, Reads, first_stop, found_of, parted_at, without_blank as text_without_blank};
+ghost use Rattle.im_trial.specs.Finding.{EndsUnless, Finds, IsEnded, Parts, Reads, first_stop};
+ghost use Rattle.im_trial.specs.Finding.{found_of, parted_at, without_blank as text_without_blank};
 ghost use Rattle.im_trial.specs.Numbers.{integer_in, word_digits, word_in};
 ghost use Rattle.im_trial.specs.Texts.{bytes_of as field_bytes, words_of as field_words};
 ghost use Rattle.im_trial.specs.declared.stop.Stop.TheVariants.{Memory};

@@ -1,4 +1,5 @@
-ghost use Rattle.std.specs.Prelude.{◌≡◌, ℕ, ◌<◌, ◌∷◌, ◌++◌, List, None, Some, IfErr, IfOk, IfSome, OnOk, MatchOption, MatchResult, string_bytes};
+ghost use Rattle.std.specs.Prelude.{◌≡◌, ℕ, ◌<◌, ◌∷◌, ◌++◌, List, None, Some, IfErr, IfOk, IfSome};
+ghost use Rattle.std.specs.Prelude.{OnOk, MatchOption, MatchResult, string_bytes};
 ghost use Rattle.std.specs.Option.{option_to_list};
 ghost use Rattle.im_trial.specs.Escapes as escapes;
 ghost use Rattle.im_trial.specs.Escapes.{left_in, put_ended, quoted as quoted_of};

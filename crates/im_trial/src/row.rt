@@ -1,4 +1,5 @@
-ghost use Rattle.std.specs.Prelude.{◌≡◌, [], ◌∷◌, ◌++◌, ◌==◌, map, IfErr, IfOk, OnOk, MatchResult, Some, string_bytes};
+ghost use Rattle.std.specs.Prelude.{◌≡◌, [], ◌∷◌, ◌++◌, ◌==◌, map, IfErr, IfOk, OnOk, MatchResult};
+ghost use Rattle.std.specs.Prelude.{Some, string_bytes};
 ghost use Rattle.std.specs.List.{slice_split};
 ghost use Rattle.im_trial.specs.Finding.{Refuses};
 ghost use Rattle.im_trial.specs.Rows.{field_of, wanted_of};

@@ -1,9 +1,12 @@
-ghost use Rattle.std.specs.Prelude.{◌≡◌, ℕ, List, [], ◌++◌, true, false, is_some, IfErr, IfOk, MatchResult, OnErr, OnOk, Some};
+ghost use Rattle.std.specs.Prelude.{◌≡◌, ℕ, List, [], ◌++◌, true, false, is_some, IfErr, IfOk};
+ghost use Rattle.std.specs.Prelude.{MatchResult, OnErr, OnOk, Some};
 ghost use Rattle.std.specs.List.{flat_map, repeat};
 ghost use Rattle.im_num.specs.Bytes.{word_bytes};
 ghost use Rattle.im_trial.specs.Finding.{Refuses};
 ghost use Rattle.im_trial.specs.Rows.{field_of};
-ghost use Rattle.im_trial.specs.Texts.{has_text, is_file, repeat_text, text_named, text_of as text_written, texts_behind, with_text, words_of, words_text, writing_by, writing_of, written_in};
+ghost use Rattle.im_trial.specs.Texts.{has_text, is_file, repeat_text, text_named};
+ghost use Rattle.im_trial.specs.Texts.{text_of as text_written, texts_behind, with_text, words_of};
+ghost use Rattle.im_trial.specs.Texts.{words_text, writing_by, writing_of, written_in};
 
 use crate::escapes::unescaped;
 use crate::fields::small_of;

@@ -13,7 +13,8 @@ ghost use Rattle.im_store.specs.declared.undefined.Undefined.TheVariants.{ZeroDi
 ghost use Rattle.im_store.specs.declared.undefined.Undefined.TheVariants.{QuotientOverflow};
 ghost use Rattle.im_store.specs.declared.undefined.Undefined.TheVariants.{ShiftCount};
 ghost use Rattle.im_store.specs.declared.undefined.Undefined.TheVariants.{MissingResult};
-ghost use Rattle.im_store.specs.declared.undefined.Undefined.TheVariants.{DeadPointerRead, PartialOverlap};
+ghost use Rattle.im_store.specs.declared.undefined.Undefined.TheVariants.{DeadPointerRead};
+ghost use Rattle.im_store.specs.declared.undefined.Undefined.TheVariants.{PartialOverlap};
 ghost use Rattle.im_store.specs.Outcomes.{Undef, More, End};
 ghost use Rattle.im_typed.specs.Program.{Local, Target, Member, Address, Move, Compare};
 ghost use Rattle.im_typed.specs.Program.{NullPointer};
@@ -24,7 +25,8 @@ ghost use Rattle.im_typed.specs.Samples.{computes, signed_char_of_200, endless, 
 ghost use Rattle.im_typed.specs.Samples.{recurses, has_two_activations, reads_dead_pointer};
 ghost use Rattle.im_typed.specs.Samples.{uses_dead_result, uses_missing_result, writes_twice};
 ghost use Rattle.im_typed.specs.Samples.{reads_twice, compares_with_one, reads_struct};
-ghost use Rattle.im_typed.specs.Samples.{reads_unset_struct, takes_part, copies_itself, copies_within};
+ghost use Rattle.im_typed.specs.Samples.{reads_unset_struct, takes_part, copies_itself};
+ghost use Rattle.im_typed.specs.Samples.{copies_within};
 ghost use Rattle.im_typed.specs.Samples.{initialises_in_order, initialises_from_itself, switches};
 ghost use Rattle.im_typed.specs.Samples.{goes_on_in_rows, subtracts, orders, orders_two_objects};
 ghost use Rattle.im_typed.specs.Samples.{with_null};
