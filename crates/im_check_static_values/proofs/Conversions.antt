@@ -1,5 +1,5 @@
 -- Conversions round an expression: one more, and one less.
-use Rattle.std.proofs.Common.{◌≡◌, List, [], ◌∷◌, ◌++◌, refl, ap, ◌∙◌, sym}
+use Rattle.std.proofs.Common.{◌≡◌, List, [], ◌∷◌, ◌++◌, refl, ap, ◌∙◌}
 use Rattle.im_num.specs.declared.kind.Kind.{Kind}
 use Rattle.im_typed.specs.Program.{Expr, Convert}
 use Rattle.im_check_static_values.specs.Chains.{converted}

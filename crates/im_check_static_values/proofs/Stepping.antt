@@ -1,6 +1,5 @@
 -- Steps from a static: one more, and one less.
-use Rattle.std.proofs.Common.{◌≡◌, ℕ, List, [], ◌∷◌, ◌++◌, Option, Some, None, refl, ap, ◌∙◌, sym}
-use Rattle.std.specs.Prelude.{ℤ}
+use Rattle.std.proofs.Common.{◌≡◌, ℕ, List, [], ◌∷◌, ◌++◌, Option, Some, refl, ap, ◌∙◌}
 use Rattle.im_check_items.specs.im_rules.StaticValues as v
 use Rattle.im_check_static_values.specs.declared.steps.Step.{Step}
 use Rattle.im_check_static_values.specs.Spots.{stepped, bytes_of}
