@@ -3,7 +3,8 @@
 Counted are the lines of the definitions in specs/ that the statement names, of those that these name, and so on, each definition
 once, a constructor as its whole type; blank lines, comments and imports aside. Types that the code declares and modules of the kit's
 own library are told apart from that. Without words it tells them of the headline, of what is compiled and of the program's clause;
---crates adds the lines of each crate."""
+--crates adds the lines of each crate. --order prints all files of the clause in an order in which each stands behind those that it
+names, those of the headline first, with the lines that count of each; --page puts that into docs/THEOREM.md."""
 
 import os
 import re
@@ -149,8 +150,84 @@ class Definitions:
         return seen, outside
 
 
+# the parts of the clause, in the order in which one reads them
+PARTS = [
+    ("im_keeps.Keeps.Keeps", "`Keeps`, over any meaning"),
+    ("im_keeps_passes.Laws.Survives", "`Survives`"),
+    ("im_keeps_writes.Writes.Writes", "`Writes`"),
+    ("im_driver.Compiled.IsProgramOf", "`IsProgramOf`: what a source says"),
+    ("im_keeps_source.Laws.meaning_of", "`meaning_of`: what it does"),
+    ("im_driver.Compiled.IsCompiled", "`IsCompiled`: what is told of an image"),
+    ("im_driver.Compiled.IsRefused", "`IsRefused`: why there is none"),
+    ("im_cmd.Answers.Answers", "`Answers`: words, files and lines"),
+]
+PAGE = os.path.join(TOP, "docs", "THEOREM.md")
+BEGIN, END = "| For | Files, each behind what it names | Lines |", "\n\n"
+
+
+def place(path):
+    """The crate and the module of a file."""
+    parts = os.path.relpath(path, TOP).split(os.sep)
+    return parts[1], "/".join(parts[3:])[: -len(".antt")]
+
+
+def in_order(definitions, seen):
+    """The files of these definitions, each behind those that it names."""
+    names, order, done = {}, [], set()
+    for path, name in seen:
+        names.setdefault(path, []).append(name)
+    below = {}
+    for path in names:
+        found = {module.path for name in names[path] for module, _ in definitions.named_in(definitions.known[path], name, set())}
+        below[path] = sorted(found - {path}, key=place)
+    stack = [(path, False) for path in sorted(names, key=place, reverse=True)]
+    while stack:
+        path, is_left = stack.pop()
+        if is_left:
+            order.append(path)
+        elif path not in done:
+            done.add(path)
+            stack.append((path, True))
+            stack += [(other, False) for other in reversed(below[path]) if other not in done]
+    return order
+
+
+def reading_list(definitions):
+    """The rows of a table: for each part of the clause the files that it adds, by crate, and the lines that count of them."""
+    counted = {}
+    for path, name in definitions.below(PARTS[-1][0])[0]:
+        counted[path] = counted.get(path, 0) + len(definitions.known[path].lines[name])
+    rows, listed = [BEGIN, "|---|---|---|"], set()
+    for root, title in PARTS:
+        crates, lines = [], 0
+        for path in in_order(definitions, definitions.below(root)[0]):
+            if path in listed:
+                continue
+            listed.add(path)
+            lines += counted[path]
+            crate, module = place(path)
+            if not crates or crates[-1][0] != crate:
+                crates.append((crate, []))
+            crates[-1][1].append(module)
+        told = "; ".join(f"`{crate}` {', '.join(modules)}" for crate, modules in crates)
+        rows.append(f"| {title} | {told} | {lines} |")
+    return "\n".join(rows)
+
+
+def put_in(rows):
+    with open(PAGE, encoding="utf-8") as file:
+        text = file.read()
+    at = text.index(BEGIN)
+    with open(PAGE, "w", encoding="utf-8") as file:
+        file.write(text[:at] + rows + text[text.index(END, at) :])
+
+
 def main():
     definitions = Definitions()
+    if "--order" in sys.argv or "--page" in sys.argv:
+        rows = reading_list(definitions)
+        put_in(rows) if "--page" in sys.argv else print(rows)
+        return
     is_long = "--crates" in sys.argv
     for root in [it for it in sys.argv[1:] if not it.startswith("-")] or STANDARD:
         seen, outside = definitions.below(root)

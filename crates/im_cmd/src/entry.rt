@@ -24,7 +24,7 @@ use std::alloc::Global;
 /// | 0 | all was done; a run halted or an evaluation ended, and not for want of stack |
 /// | 1 | a run halted for want of stack, or an evaluation ended so |
 /// | 2 | the words name no command, or ask for help |
-/// | 3 | the source is refused: it is no C, breaks a rule, is over a limit, or has a static that no image can name |
+/// | 3 | the source is refused: it is no C, breaks a rule, or is over a limit |
 /// | 4 | a run neither halted nor faulted in the periods of power that it had |
 /// | 5 | the file that is to be run, shown or upgraded holds no image (nor, to be upgraded, a memory) |
 /// | 6 | the text of the trace's file is no trace's |

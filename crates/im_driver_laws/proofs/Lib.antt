@@ -1,3 +1,4 @@
+mod Ends
 mod Limits
 mod Right
 mod Rules

@@ -1,3 +1,4 @@
+ghost use Rattle.im_driver_laws.specs.Ends.{EndedLaw};
 ghost use Rattle.im_driver_laws.specs.Laws.{OneProgramLaw, RightLaw};
 ghost use Rattle.im_driver_laws.specs.Rules.{OneUnitLaw, ProgramIsTypedLaw, TypedIsProgramLaw};
 ghost use Rattle.im_driver_laws.specs.Rules.{RefusedIsFaultLaw, FaultlessHasProgramLaw};
@@ -10,6 +11,7 @@ use im_front::one_word_law;
 use im_lex::one_reading;
 use im_rules::laws::{typed_breaks_none_law, typed_once_law};
 use im_rules_asked::laws::{first_excess_law, first_fault_law, units_agree_law};
+use im_typed::more_fuel_law;
 
 /// A source has one program at most. Of a right source, within the limits by its own counts, no
 /// fault but want of memory is true.
@@ -65,4 +67,13 @@ pub fn source_limits_law()
 {
     source_typed_law();
     first_excess_law();
+}
+
+/// A compiled source that ends on an input is right on it with any fuel. So what is promised of one
+/// that may go on for ever is promised of it too: all that it writes with some fuel is reached,
+/// each moment under losses is one of the run without them, and no other memory is changed.
+pub fn ended_source_law()
+    ensures { EndedLaw }
+{
+    more_fuel_law();
 }

@@ -6,4 +6,6 @@
 
 mod laws;
 
-pub use laws::{right_source_law, source_faults_law, source_typed_law};
+pub use laws::{
+    ended_source_law, right_source_law, source_faults_law, source_limits_law, source_typed_law,
+};
