@@ -1,5 +1,5 @@
 -- With less fuel than ends a source wants more, with more it ends as it did.
-use Rattle.std.proofs.Common.{◌≡◌, ℕ, ◌+◌, ◌-◌, ◌<◌, ◌≤◌, ℤ, List, ◌⊎◌, inl, inr, refl, sym, subst, tt, ◌∙◌, arith}
+use Rattle.std.proofs.Common.{◌≡◌, ℕ, ◌+◌, ◌-◌, ◌<◌, ◌≤◌, ℤ, List, ◌⊎◌, inl, inr, sym, subst, ◌∙◌, arith}
 use Rattle.std.proofs.lemmas.Bool.{cases_lt}
 use Rattle.im_num.specs.Variables.{Variable}
 use Rattle.im_store.specs.Outcomes.{Outcome, Undef, More, End, IsDefined}
@@ -12,7 +12,7 @@ MoreFuelLaw = (g : Setting) (input : List ℕ) (fuel more : ℕ) → Extends (me
 
 -- what an end extends is defined
 before : (r : ℕ) (s : ℤ) (out : List ℕ) (vs : List Variable) (earlier later : Outcome) → later ≡ End r s out vs → Extends earlier later → IsDefined earlier
-before r s out vs (Undef why) later is extends = let no = sym is ∙ extends in absurd (no)
+before r s out vs (Undef why) later is extends = absurd (cc)
 before r s out vs (More output) later is extends = tt
 before r s out vs (End reason status output variables) later is extends = tt
 
