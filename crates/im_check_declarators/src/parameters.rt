@@ -1,6 +1,6 @@
 //! Parameters (C11 6.7.6.3p7).
 ghost use Rattle.std.specs.Prelude.{◌≡◌, ℕ, Bool, false, is_some, List, Option, MatchResult, IfOk};
-ghost use Rattle.std.specs.Prelude.{OnOk, OnErr};
+ghost use Rattle.std.specs.Prelude.{OnOk, OnErr, IfErr};
 ghost use Rattle.im_check_type_specifiers.specs.im_word.Words.{Name};
 ghost use Rattle.im_ctype.specs.Types.{CType};
 ghost use Rattle.im_rules.specs.Context.{Context};
@@ -9,6 +9,7 @@ ghost use Rattle.im_rules.specs.Demands.{Meets};
 ghost use Rattle.im_rules.specs.Scopes as s;
 ghost use Rattle.im_check_scopes.specs.Shape.{scopes_of};
 ghost use Rattle.im_check_stop.specs.Answers.{IsRefusal};
+ghost use Rattle.im_check_stop.specs.declared.stop.Stop.TheVariants.{Memory};
 ghost use Rattle.im_types.specs.Shape.{type_of};
 ghost use Rattle.im_check_type_specifiers.specs.Specified.{at_place};
 ghost use Rattle.im_check_type_specifiers.specs.Tags.{IsGrown};
@@ -62,10 +63,11 @@ fn is_type(scope: &Scope, name: &[u8]) -> bool
 /// What is asked of a parameter's name.
 fn name_asked(scope: &Scope, at: u32, name: &Option<Name>) -> Result<(), Stop>
     requires { s.at_file_scope (scopes_of scope.now) ≡ false }
-    ensures { (constant : Bool) (ty : CType) (number : ℕ) → let asked =
+    ensures asked { (constant : Bool) (ty : CType) (number : ℕ) → let asked =
         d.declared_asks (name_of name.now) (s.an_object constant ty (s.local_object number))
         (scopes_of scope.now) in
         MatchResult result (λ u. Meets asked) (IsRefusal asked at) }
+    ensures spared { IfErr result (λ stop. stop ≡ Memory → ⊥) }
 {
     let Some(x) = name else {
         return Ok(());
@@ -81,9 +83,10 @@ fn name_asked(scope: &Scope, at: u32, name: &Option<Name>) -> Result<(), Stop>
 
 fn asked(scope: &Scope, at: u32, declared: &Declared) -> Result<(), Stop>
     requires { s.at_file_scope (scopes_of scope.now) ≡ false }
-    ensures { (k : Context) (lists : List (Option Name)) (number : ℕ)
+    ensures asked { (k : Context) (lists : List (Option Name)) (number : ℕ)
         → let asks = d.parameter_asks (at_place k scope.now lists) number (declared_of declared.now) in
         MatchResult result (λ u. Meets asks) (IsRefusal asks at) }
+    ensures spared { IfErr result (λ stop. stop ≡ Memory → ⊥) }
 {
     if !is_sized(&declared.ty) {
         return Err(refused(6, at));

@@ -1,7 +1,8 @@
 //! Lengths that may not be absent (C11 6.7.6.2p4).
-ghost use Rattle.std.specs.Prelude.{◌≡◌, ◌∷◌, []};
+ghost use Rattle.std.specs.Prelude.{◌≡◌, ◌∷◌, [], IfErr};
 ghost use Rattle.im_rules.specs.Declared as d;
 ghost use Rattle.im_rules.specs.Demands.{asks};
+ghost use Rattle.im_check_stop.specs.declared.stop.Stop.TheVariants.{Memory};
 ghost use Rattle.im_types.specs.Shape.{type_of};
 ghost use Rattle.im_check_type_specifiers.specs.Specified.{IsQualified};
 
@@ -24,8 +25,9 @@ pub fn is_sized(ty: &Type) -> bool
 
 /// The type that a type name names, by what its declarator declares; `at` is its first token.
 pub fn sized_type(at: u32, declared: Declared) -> Result<Qualified, Stop>
-    ensures { IsQualified (asks 6 (d.is_sized (type_of declared.ty)) ∷ [])
+    ensures typed { IsQualified (asks 6 (d.is_sized (type_of declared.ty)) ∷ [])
         (record { constant = declared.constant; type = type_of declared.ty }) at result }
+    ensures spared { IfErr result (λ stop. stop ≡ Memory → ⊥) }
 {
     if !is_sized(&declared.ty) {
         return Err(refused(6, at));

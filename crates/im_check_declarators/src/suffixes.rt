@@ -1,5 +1,5 @@
 //! Suffixes (C11 6.7.6.2, 6.7.6.3).
-ghost use Rattle.std.specs.Prelude.{◌≡◌, ◌≤◌, ◌∷◌, List, length, Bool, IfOk, pos};
+ghost use Rattle.std.specs.Prelude.{◌≡◌, ◌≤◌, ◌∷◌, List, length, Bool, IfOk, pos, IfErr};
 ghost use Rattle.im_ctree.specs.Tree as t;
 ghost use Rattle.im_ctype.specs.Table.{structs_of};
 ghost use Rattle.im_rules.specs.Context.{Context};
@@ -7,6 +7,7 @@ ghost use Rattle.im_rules.specs.Declared as d;
 ghost use Rattle.im_rules.specs.Rules.{rule_6_length};
 ghost use Rattle.im_rules.specs.Terms.{size_in};
 ghost use Rattle.im_check_sizes.specs.im_rules_limits.Limits.{size_limit};
+ghost use Rattle.im_check_stop.specs.declared.stop.Stop.TheVariants.{Memory};
 ghost use Rattle.im_ctree_parts.specs.Lists.{maybe_from, parameters_from, suffixes_from};
 ghost use Rattle.im_ctree_parts.specs.Lists.{with_suffix};
 ghost use Rattle.im_types.specs.Shape.{type_of};
@@ -30,8 +31,9 @@ use std::alloc::Global;
 
 /// Whether a type may be an array's element, where so many structs have their member lists.
 fn element(known: usize, at: u32, ty: &Type) -> Result<(), Stop>
-    ensures { (c : Context) (constant : Bool) → length c.known ≡ known
+    ensures asked { (c : Context) (constant : Bool) → length c.known ≡ known
         → IsElement c (record { constant = constant; type = type_of ty.now }) at result }
+    ensures spared { IfErr result (λ stop. stop ≡ Memory → ⊥) }
 {
     if !may_be_part(ty) {
         return Err(refused(10, at));

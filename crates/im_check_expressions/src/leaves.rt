@@ -1,5 +1,5 @@
 //! What stands in no cycle: string literals, and calls whose arguments are typed.
-ghost use Rattle.std.specs.Prelude.{◌≡◌, ◌+◌, ◌≤◌, ℕ, length, true, MatchResult};
+ghost use Rattle.std.specs.Prelude.{◌≡◌, ◌+◌, ◌≤◌, ℕ, length, true, MatchResult, IfErr};
 ghost use Rattle.im_check_expression_parts.specs.im_ctype.Table.{structs_of};
 ghost use Rattle.im_ctree.specs.Tree as t;
 ghost use Rattle.im_check_expression_parts.specs.im_rules.Conversions as c;
@@ -8,6 +8,7 @@ ghost use Rattle.im_check_expression_parts.specs.im_rules.Terms as r;
 ghost use Rattle.im_check_expression_parts.specs.im_rules_limits.Limits.{size_limit};
 ghost use Rattle.im_check_scopes.specs.Shape.{scopes_of};
 ghost use Rattle.im_check_expression_parts.specs.im_check_sizes.Sizes.{IsTooLarge};
+ghost use Rattle.im_check_stop.specs.declared.stop.Stop.TheVariants.{Memory};
 ghost use Rattle.im_ctree_parts.specs.Lists.{expression_in};
 ghost use Rattle.im_check_operands.specs.Answers.{IsMade};
 ghost use Rattle.im_check_expression_parts.specs.Walked.{IsTyped, terms_in};
@@ -22,8 +23,9 @@ use std::alloc::Global;
 
 /// Whether a string literal is within the limit of sizes with its null character.
 fn text_fits(bytes: &[u8]) -> Result<(), Stop>
-    ensures { let size = length bytes.now + 1 in
+    ensures fits { let size = length bytes.now + 1 in
         MatchResult result (λ _. size ≤ size_limit) (IsTooLarge size) }
+    ensures spared { IfErr result (λ stop. stop ≡ Memory → ⊥) }
 {
     let size = bytes.len() as u64 + 1;
     if size > 1_048_576 {

@@ -1,5 +1,5 @@
 //! Functions that have a body (C11 6.9.1).
-ghost use Rattle.std.specs.Prelude.{◌≡◌, ◌&&◌, MatchResult};
+ghost use Rattle.std.specs.Prelude.{◌≡◌, ◌&&◌, MatchResult, IfErr};
 ghost use Rattle.im_ctree.specs.Shape.{declarator_of};
 ghost use Rattle.im_ctree.specs.Tree as t;
 ghost use Rattle.im_ctype.specs.Types.{CType, function};
@@ -9,6 +9,7 @@ ghost use Rattle.im_check_declarators.specs.im_rules.Outline as o;
 ghost use Rattle.im_check_declarators.specs.im_rules.Rules as u;
 ghost use Rattle.im_check_declarators.specs.Shape.{declared_of};
 ghost use Rattle.im_check_stop.specs.Answers.{IsRefusal};
+ghost use Rattle.im_check_stop.specs.declared.stop.Stop.TheVariants.{Memory};
 ghost use Rattle.im_check_declarators.specs.im_ctree_parts.Lists.{parameters_from, with_parameter};
 ghost use Rattle.im_types.specs.Shape.{type_of, types_in};
 
@@ -106,8 +107,9 @@ fn has_function(d: &Declarator, ty: &Type) -> bool
 /// Whether a body may stand behind a declarator, whose first token is that one: it is a function's
 /// own, and its parameters have names (rule 11).
 pub fn may_have_body(at: u32, d: &Declarator, y: &Declared) -> Result<(), Stop>
-    ensures { let asked = f.body_asks (declarator_of d.now) (declared_of y.now) in
+    ensures asked { let asked = f.body_asks (declarator_of d.now) (declared_of y.now) in
         MatchResult result (λ _. Meets asked) (IsRefusal asked at) }
+    ensures spared { IfErr result (λ stop. stop ≡ Memory → ⊥) }
 {
     if !has_function(d, &y.ty) {
         return Err(refused(11, at));

@@ -1,5 +1,6 @@
 //! Enumeration constants (C11 6.7.2.2).
 ghost use Rattle.std.specs.Prelude.{◌≡◌, ◌+ℤ◌, pos, true, Some, IfOk, MatchResult, OnOk, is_some};
+ghost use Rattle.std.specs.Prelude.{IfErr};
 ghost use Rattle.im_ctree.specs.Tree as t;
 ghost use Rattle.im_ctree.specs.declared.specifier.Enumerator.{out-Enumerator};
 ghost use Rattle.im_rules.specs.Declared as d;
@@ -12,6 +13,7 @@ ghost use Rattle.im_rules.specs.UnitBreaks.{some_enumerators};
 ghost use Rattle.im_rules_limits.specs.Limits.{IsFileWithin};
 ghost use Rattle.im_check_scopes.specs.Shape.{scopes_of};
 ghost use Rattle.im_check_stop.specs.Answers.{IsRefusal};
+ghost use Rattle.im_check_stop.specs.declared.stop.Stop.TheVariants.{Memory};
 ghost use Rattle.im_ctree_parts.specs.Lists.{maybe_from, with_enumerator, enumerators_from};
 ghost use Rattle.im_check_file_place.specs.Files.{file_place_of};
 ghost use Rattle.im_check_file_specifiers.specs.Answers.{IsFileFault};
@@ -74,10 +76,11 @@ fn is_type(scope: &Scope, name: &[u8]) -> bool
 
 /// The value of a constant that may be declared here.
 fn asked(scope: &Scope, at: u32, name: &[u8], z: Option<i128>) -> Result<Number, Stop>
-    ensures { MatchResult result
+    ensures asked { MatchResult result
         (λ n. (Meets (f.enumerator_asks (scopes_of scope.now) name.now z) × (z ≡ Some n.value))
         × (u.rule_8_constant n.value ≡ true))
         (IsRefusal (f.enumerator_asks (scopes_of scope.now) name.now z) at) }
+    ensures spared { IfErr result (λ stop. stop ≡ Memory → ⊥) }
 {
     let Some(n) = z else {
         return Err(refused(15, at));

@@ -1,5 +1,5 @@
 //! Enums with their lists (C11 6.7.2.2).
-ghost use Rattle.std.specs.Prelude.{◌≡◌, ◌∷◌, ℕ, List, MatchResult, OnOk};
+ghost use Rattle.std.specs.Prelude.{◌≡◌, ◌∷◌, ℕ, List, MatchResult, OnOk, IfErr};
 ghost use Rattle.im_ctree.specs.Tree as t;
 ghost use Rattle.im_ctree.specs.declared.specifier.SpecifierWord.{SpecifierWord};
 ghost use Rattle.im_rules.specs.Demands.{Meets};
@@ -10,6 +10,7 @@ ghost use Rattle.im_rules.specs.UnitBreaks.{some_named};
 ghost use Rattle.im_rules_limits.specs.Limits.{IsFileWithin};
 ghost use Rattle.im_check_scopes.specs.Shape.{scopes_of};
 ghost use Rattle.im_check_stop.specs.Answers.{IsRefusal};
+ghost use Rattle.im_check_stop.specs.declared.stop.Stop.TheVariants.{Memory};
 ghost use Rattle.im_ctree_parts.specs.Lists.{enumerators_from};
 ghost use Rattle.im_check_file_place.specs.Files.{file_place_of};
 ghost use Rattle.im_check_file_specifiers.specs.Answers.{IsFileFault};
@@ -54,8 +55,9 @@ fn is_first(scope: &Scope, tag: &Option<Vec<u8>>) -> bool
 
 /// A list of enumerators may stand there (C11 6.7.2.3p1).
 fn may_list(scope: &Scope, at: u32, tag: &Option<Vec<u8>>) -> Result<(), Stop>
-    ensures { let asked = f.enum_asks (scopes_of scope.now) (tag_of tag.now) in
+    ensures asked { let asked = f.enum_asks (scopes_of scope.now) (tag_of tag.now) in
         MatchResult result (λ _. Meets asked) (IsRefusal asked at) }
+    ensures spared { IfErr result (λ stop. stop ≡ Memory → ⊥) }
 {
     if !is_no_struct(scope, tag) {
         return Err(refused(3, at));

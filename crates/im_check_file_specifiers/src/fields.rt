@@ -1,5 +1,5 @@
 //! The members that one declaration declares (C11 6.7.2.1).
-ghost use Rattle.std.specs.Prelude.{◌≡◌, ◌++◌, MatchResult, IfOk};
+ghost use Rattle.std.specs.Prelude.{◌≡◌, ◌++◌, MatchResult, IfOk, IfErr};
 ghost use Rattle.im_ctree.specs.Tree as t;
 ghost use Rattle.im_ctree.specs.Shape.{declarator_of};
 ghost use Rattle.im_ctype.specs.Table.{structs_of};
@@ -9,6 +9,7 @@ ghost use Rattle.im_rules.specs.Rules as u;
 ghost use Rattle.im_rules.specs.Statements.{name_of as name_in};
 ghost use Rattle.im_rules.specs.UnitBreaks.{some_fields};
 ghost use Rattle.im_check_stop.specs.Answers.{IsRefusal};
+ghost use Rattle.im_check_stop.specs.declared.stop.Stop.TheVariants.{Memory};
 ghost use Rattle.im_ctree_parts.specs.Lists.{declarators_from};
 ghost use Rattle.im_types.specs.Shape.{type_of};
 ghost use Rattle.im_check_type_specifiers.specs.Specified.{qualified_of};
@@ -45,8 +46,9 @@ fn has_unsized(ty: &Type) -> bool
 
 /// A member has lengths and a complete object type.
 fn asked(structs: &Structs, at: u32, y: &Declared) -> Result<(), Stop>
-    ensures { let asked = f.member_asks (structs_of structs.now) (declared_of y.now) in
+    ensures asked { let asked = f.member_asks (structs_of structs.now) (declared_of y.now) in
         MatchResult result (λ _. Meets asked) (IsRefusal asked at) }
+    ensures spared { IfErr result (λ stop. stop ≡ Memory → ⊥) }
 {
     if has_unsized(&y.ty) {
         return Err(refused(6, at));

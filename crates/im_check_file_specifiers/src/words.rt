@@ -1,10 +1,11 @@
 //! What stands among specifiers.
-ghost use Rattle.std.specs.Prelude.{◌≡◌, ◌+◌, ◌∷◌, List, length, MatchResult};
+ghost use Rattle.std.specs.Prelude.{◌≡◌, ◌+◌, ◌∷◌, List, length, MatchResult, IfErr};
 ghost use Rattle.im_ctree.specs.Tree as t;
 ghost use Rattle.im_rules.specs.FileScope.{level_asks};
 ghost use Rattle.im_rules.specs.Rules as u;
 ghost use Rattle.im_rules.specs.UnitBreaks.{begins_with_list};
 ghost use Rattle.im_check_stop.specs.Answers.{IsRefusal};
+ghost use Rattle.im_check_stop.specs.declared.stop.Stop.TheVariants.{Memory};
 ghost use Rattle.im_ctree_parts.specs.Lists.{list_from, specifier_in};
 ghost use Rattle.im_check_type_specifiers.specs.Lists.{one_if, with_named};
 ghost use Rattle.im_check_file_specifiers.specs.Answers.{level_of};
@@ -98,9 +99,10 @@ fn is_one(specifiers: &[Specifier]) -> bool
 
 /// The words that may stand there: a struct, an enum or a typedef name among them is the type.
 pub fn may_stand(level: Level, at: u32, specifiers: &[Specifier]) -> Result<(), Stop>
-    ensures { MatchResult result
+    ensures asked { MatchResult result
         (λ _. MayStand (level_of level) (list_from specifiers.now))
         (IsRefusal (level_asks (level_of level) (list_from specifiers.now)) at) }
+    ensures spared { IfErr result (λ stop. stop ≡ Memory → ⊥) }
 {
     if !storage_stands(level, specifiers) {
         return Err(refused(2, at));

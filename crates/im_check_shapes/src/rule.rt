@@ -1,9 +1,10 @@
 //! The rule on shapes: whether an initialiser has that of its object (C11 6.7.9).
-ghost use Rattle.std.specs.Prelude.{◌≡◌, nat_le, None, Some};
+ghost use Rattle.std.specs.Prelude.{◌≡◌, nat_le, None, Some, IfErr};
 ghost use Rattle.im_ctree.specs.Shape.{initializer_of};
 ghost use Rattle.im_ctype.specs.Table.{structs_of};
 ghost use Rattle.im_ctype.specs.Types as t;
 ghost use Rattle.im_check_stop.specs.im_rules.Rules as u;
+ghost use Rattle.im_check_stop.specs.declared.stop.Stop.TheVariants.{Memory};
 ghost use Rattle.im_ctree_parts.specs.Lists.{initializers_from};
 ghost use Rattle.im_types.specs.Shape.{type_of};
 ghost use Rattle.im_check_shapes.specs.Shape.{IsShaped};
@@ -86,7 +87,8 @@ pub fn has_shape(table: &TypeTable, ty: &Type, i: &Initializer) -> bool
 /// Which form the initialiser of an object of that type has; what has not its shape breaks rule 16
 /// at its first token.
 pub fn shaped<'a>(table: &TypeTable, ty: &'a Type, i: &'a Initializer) -> Result<Shape<'a>, Stop>
-    ensures { IsShaped (structs_of table.now) (type_of ty.now) (initializer_of i.now) result }
+    ensures shaped { IsShaped (structs_of table.now) (type_of ty.now) (initializer_of i.now) result }
+    ensures spared { IfErr result (λ stop. stop ≡ Memory → ⊥) }
 {
     if !has_shape(table, ty, i) {
         return Err(refused(16, token_of(i)));

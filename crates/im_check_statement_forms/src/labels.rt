@@ -1,9 +1,10 @@
 //! Labels of a switch (C11 6.8.1, 6.8.4.2).
-ghost use Rattle.std.specs.Prelude.{◌≡◌, [], None, MatchResult};
+ghost use Rattle.std.specs.Prelude.{◌≡◌, [], None, MatchResult, IfErr};
 ghost use Rattle.im_ctype.specs.Table.{Table};
 ghost use Rattle.im_check_locals.specs.im_rules.Statements as st;
 ghost use Rattle.im_check_locals.specs.im_rules.Terms as r;
 ghost use Rattle.im_check_stop.specs.Answers.{IsNoRule, IsRefusal};
+ghost use Rattle.im_check_stop.specs.declared.stop.Stop.TheVariants.{Memory};
 ghost use Rattle.im_check_locals.specs.im_ctree_parts.Lists.{expression_in};
 ghost use Rattle.im_check_constancy.specs.Told.{number_in, constant_in};
 ghost use Rattle.im_check_operands.specs.Shape.{term_in};
@@ -126,8 +127,9 @@ pub fn case_label(
 /// The label `default`.
 pub fn default_label(at: u32, n: u32, labels: &mut Labels) -> Result<(), Stop>
     requires { Tells labels.old }
-    ensures { MatchResult result (λ _. DefaultAdded labels.old labels.new n)
+    ensures added { MatchResult result (λ _. DefaultAdded labels.old labels.new n)
         (IsRefusal (st.default_asks (labels_of labels.old)) at) }
+    ensures spared { IfErr result (λ stop. stop ≡ Memory → ⊥) }
 {
     match labels.otherwise {
         Some(_) => Err(refused(34, at)),

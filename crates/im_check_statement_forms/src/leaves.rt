@@ -1,11 +1,12 @@
 //! Statements that have no statement in them.
-ghost use Rattle.std.specs.Prelude.{◌≡◌, ◌||◌, MatchResult};
+ghost use Rattle.std.specs.Prelude.{◌≡◌, ◌||◌, MatchResult, IfErr};
 ghost use Rattle.im_ctree.specs.Shape.{optional_expression_of};
 ghost use Rattle.im_ctree.specs.Tree as t;
 ghost use Rattle.im_check_locals.specs.im_rules.Conversions as c;
 ghost use Rattle.im_check_locals.specs.im_rules.Statements as st;
 ghost use Rattle.im_check_locals.specs.im_rules.Terms as r;
 ghost use Rattle.im_check_locals.specs.im_ctree_parts.Lists.{expression_in};
+ghost use Rattle.im_check_stop.specs.declared.stop.Stop.TheVariants.{Memory};
 ghost use Rattle.im_types.specs.Shape.{type_of};
 ghost use Rattle.im_check_statement_forms.specs.Asked.{IsAsked};
 ghost use Rattle.im_check_statement_forms.specs.Done.{IsLeaf};
@@ -99,7 +100,8 @@ fn may_continue(position: Position) -> bool
 
 /// A `break`, in a loop or a switch (C11 6.8.6.3).
 pub fn break_statement(at: u32, position: Position, body: &Body) -> Result<Stmt, Stop>
-    ensures { IsLeaf position body.now (t.break_statement at) body.now result }
+    ensures leaf { IsLeaf position body.now (t.break_statement at) body.now result }
+    ensures spared { IfErr result (λ stop. stop ≡ Memory → ⊥) }
 {
     if may_break(position) {
         Ok(Stmt::Break)
@@ -110,7 +112,8 @@ pub fn break_statement(at: u32, position: Position, body: &Body) -> Result<Stmt,
 
 /// A `continue`, in a loop (C11 6.8.6.2).
 pub fn continue_statement(at: u32, position: Position, body: &Body) -> Result<Stmt, Stop>
-    ensures { IsLeaf position body.now (t.continue_statement at) body.now result }
+    ensures leaf { IsLeaf position body.now (t.continue_statement at) body.now result }
+    ensures spared { IfErr result (λ stop. stop ≡ Memory → ⊥) }
 {
     if may_continue(position) {
         Ok(Stmt::Continue)

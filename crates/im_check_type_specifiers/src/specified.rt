@@ -1,11 +1,12 @@
 //! The type that specifiers name (C11 6.7.2).
-ghost use Rattle.std.specs.Prelude.{◌≡◌, ◌≤◌, ℕ, ◌∷◌, [], List, length, Option, MatchOption};
+ghost use Rattle.std.specs.Prelude.{◌≡◌, ◌≤◌, ℕ, ◌∷◌, [], List, length, Option, MatchOption, IfErr};
 ghost use Rattle.im_ctree.specs.Tree as t;
 ghost use Rattle.im_ctree.specs.declared.specifier.SpecifierWord.{SpecifierWord};
 ghost use Rattle.im_check_scopes.specs.im_word.Words.{Name};
 ghost use Rattle.im_check_scopes.specs.im_rules.Context.{Context};
 ghost use Rattle.im_check_scopes.specs.im_rules.Declared as d;
 ghost use Rattle.im_check_scopes.specs.im_rules.Rules as u;
+ghost use Rattle.im_check_stop.specs.declared.stop.Stop.TheVariants.{Memory};
 ghost use Rattle.im_ctree_parts.specs.Lists.{list_from, specifier_in};
 ghost use Rattle.im_types.specs.Shape.{type_of};
 ghost use Rattle.im_check_type_specifiers.specs.Lines.{word_type_of};
@@ -53,10 +54,11 @@ fn typedef_type(alloc: Global, scope: &Scope, at: u32, name: &[u8]) -> Result<Qu
 }
 
 fn enum_type(scope: &Scope, at: u32, tag: &[u8]) -> Result<Qualified, Stop>
-    ensures { (k : Context) (lists : List (Option Name)) (first : ℕ) (ks : List SpecifierWord)
+    ensures typed { (k : Context) (lists : List (Option Name)) (first : ℕ) (ks : List SpecifierWord)
         → let c = at_place k scope.now lists in
         let named = t.enum_tag first tag.now ∷ [] in
         IsQualified (d.specified_asks c named) (d.specified c named ks) at result }
+    ensures spared { IfErr result (λ stop. stop ≡ Memory → ⊥) }
 {
     match scope.tag_meaning(tag) {
         Some(Tag::Enum) => Ok(Qualified {
@@ -128,8 +130,9 @@ fn type_of_word(word: WordType) -> Type
 fn word_type(at: u32, specifiers: &[Specifier]) -> Result<Qualified, Stop>
     requires none { u.named_in (list_from specifiers.now) ≡ [] }
     requires few { length (u.storage_in (list_from specifiers.now)) ≤ 1 }
-    ensures { (c : Context) → IsQualified (file_asks c (list_from specifiers.now))
+    ensures typed { (c : Context) → IsQualified (file_asks c (list_from specifiers.now))
         (base_of c (list_from specifiers.now)) at result }
+    ensures spared { IfErr result (λ stop. stop ≡ Memory → ⊥) }
 {
     match line_of(counts_of(specifiers)) {
         Some(word) => Ok(Qualified {

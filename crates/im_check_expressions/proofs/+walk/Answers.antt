@@ -305,7 +305,7 @@ type_names::type_name-returns-in_err-declared t c =
 
 pub type_names::type_name-returns : goal.type_names::type_name-returns
 type_names::type_name-returns t c =
-    rw (type_name_shape c.args.name.now) (name_done c.args.place.now _ _ _ _ c.in_ok-base.base c.in_ok-declared.declared c.sized_type.result (rw c.deref.ensures.value at (c.in_ok-base.ensures (context_of c.args.place.now))) c.in_ok-declared.ensures c.sized_type.ensures)
+    rw (type_name_shape c.args.name.now) (name_done c.args.place.now _ _ _ _ c.in_ok-base.base c.in_ok-declared.declared c.sized_type.result (rw c.deref.ensures.value at (c.in_ok-base.ensures (context_of c.args.place.now))) c.in_ok-declared.ensures c.sized_type.ensures.typed)
 
 pub declarators::declarator_if_any-returns-in-None : goal.declarators::declarator_if_any-returns-in-None
 declarators::declarator_if_any-returns-in-None t c =

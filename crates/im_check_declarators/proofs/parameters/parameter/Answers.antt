@@ -9,8 +9,8 @@ use Rattle.im_check_declarators.proofs.parameters.parameter.Goals as goal
 pub returns-in_err-asked-clause-asked : goal.returns-in_err-asked-clause-asked
 returns-in_err-asked-clause-asked c =
     let p = err_from_is_err_and c.from_residual.result c.from_residual.ensures.1 in
-    rw (p.1, p.2) (λ k lists. subst (λ (y : d.Declared). IsRefusal (d.parameter_asks (at_place k c.args.scope.now lists) c.args.number y) c.args.at c.in_err-asked.field-0.0) c.adjusted-p.ensures (c.in_err-asked.ensures k lists c.args.number))
+    rw (p.1, p.2) (λ k lists. subst (λ (y : d.Declared). IsRefusal (d.parameter_asks (at_place k c.args.scope.now lists) c.args.number y) c.args.at c.in_err-asked.field-0.0) c.adjusted-p.ensures (c.in_err-asked.ensures.asked k lists c.args.number))
 
 pub returns-clause-asked : goal.returns-clause-asked
 returns-clause-asked c = λ k lists.
-    subst (λ (y : d.Declared). Meets (d.parameter_asks (at_place k c.args.scope.now lists) c.args.number y)) c.adjusted-p.ensures (c.in_ok-asked.ensures k lists c.args.number)
+    subst (λ (y : d.Declared). Meets (d.parameter_asks (at_place k c.args.scope.now lists) c.args.number y)) c.adjusted-p.ensures (c.in_ok-asked.ensures.asked k lists c.args.number)

@@ -21,13 +21,13 @@ returns-in_err-y c =
 pub returns-in_err-may_have_body : goal.returns-in_err-may_have_body
 returns-in_err-may_have_body c =
     let p = err_from_is_err_and c.from_residual-in_err-may_have_body.result c.from_residual-in_err-may_have_body.ensures.1 in
-    rw (p.1, p.2) (body_fault (out-Specifiers c.args.specifiers.now).at _ _ (head_token c.args.d.now) c.in_ok-q.ensures.0 c.in_ok-y.ensures.0 c.in_err-may_have_body.ensures)
+    rw (p.1, p.2) (body_fault (out-Specifiers c.args.specifiers.now).at _ _ (head_token c.args.d.now) c.in_ok-q.ensures.0 c.in_ok-y.ensures.0 c.in_err-may_have_body.ensures.asked)
 
 pub returns-in_err-formals : goal.returns-in_err-formals
 returns-in_err-formals c =
     let p = err_from_is_err_and c.from_residual-in_err-formals.result c.from_residual-in_err-formals.ensures.1 in
     let e = declarator_of c.args.d.now in
-    rw (p.1, p.2) (formals_fault (out-Specifiers c.args.specifiers.now).at _ c.in_ok-q.ensures.0 c.in_ok-y.ensures.0 c.in_ok-may_have_body.ensures (known_there _ e c.in_ok-y.ensures.1) (rw c.own_parameters.ensures at c.in_err-formals.ensures))
+    rw (p.1, p.2) (formals_fault (out-Specifiers c.args.specifiers.now).at _ c.in_ok-q.ensures.0 c.in_ok-y.ensures.0 c.in_ok-may_have_body.ensures.asked (known_there _ e c.in_ok-y.ensures.1) (rw c.own_parameters.ensures at c.in_err-formals.ensures))
 
 pub returns-in_err-declared_in_file : goal.returns-in_err-declared_in_file
 returns-in_err-declared_in_file c =
@@ -44,4 +44,4 @@ returns c =
     let behind = ap (λ z. file_place_of (record c.declared.new.file { place = z })) ps.1 ∙ y.1 in
     let asked = rw c.deref.ensures.value at c.in_ok-declared_in_file.ensures.asked in
     let declared = rw c.deref.ensures.value at c.in_ok-declared_in_file.ensures.declared in
-    head_done (out-Specifiers c.args.specifiers.now).at q.0 q.1 y.0 y.2 behind c.in_ok-may_have_body.ensures (known_there _ e y.1) ps.0 asked declared
+    head_done (out-Specifiers c.args.specifiers.now).at q.0 q.1 y.0 y.2 behind c.in_ok-may_have_body.ensures.asked (known_there _ e y.1) ps.0 asked declared

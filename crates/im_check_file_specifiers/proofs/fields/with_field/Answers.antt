@@ -23,11 +23,11 @@ pub returns-in_err-asked : goal.returns-in_err-asked
 returns-in_err-asked c = λ rest.
     let p = err_from_is_err_and c.from_residual-in_err-asked.result c.from_residual-in_err-asked.ensures.1 in
     let y = rw c.in_ok-base.ensures at c.in_ok-y.ensures in
-    rw (p.1, p.2) (field_refused (file_place_of c.args.file.now) _ (qualified_of c.args.q.now) c.args.d.now (declared_of c.in_ok-y.y) rest _ y.0 (ap (λ (z : Place). structs_of z.structs) y.1) c.in_err-asked.ensures)
+    rw (p.1, p.2) (field_refused (file_place_of c.args.file.now) _ (qualified_of c.args.q.now) c.args.d.now (declared_of c.in_ok-y.y) rest _ y.0 (ap (λ (z : Place). structs_of z.structs) y.1) c.in_err-asked.ensures.asked)
 
 pub returns : goal.returns
 returns c = λ rest.
     let y = rw c.in_ok-base.ensures at c.in_ok-y.ensures in
     let place = passed c.args.file.now _ c.append_declarator.new.texts (strings_of_declarator (declarator_of c.args.d.now)) y.1 c.in_ok-append_declarator.ensures in
     let added = ap fields_of c.in_ok-push.ensures.items ∙ map_push {X = Field} field_of c.args.fields.now.items c.field.result ∙ ap (λ z. fields_of c.args.fields.now.items ++ z ∷ []) c.field.ensures in
-    field_done (file_place_of c.args.file.now) _ (qualified_of c.args.q.now) (declarator_of c.args.d.now) (declared_of c.in_ok-y.y) rest _ _ y.0 place c.in_ok-asked.ensures added y.2
+    field_done (file_place_of c.args.file.now) _ (qualified_of c.args.q.now) (declarator_of c.args.d.now) (declared_of c.in_ok-y.y) rest _ _ y.0 place c.in_ok-asked.ensures.asked added y.2

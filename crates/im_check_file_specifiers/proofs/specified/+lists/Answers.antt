@@ -22,7 +22,7 @@ use Rattle.im_check_file_specifiers.proofs.specified.+lists.Goals as goal
 pub specify-returns-in_err-may_stand : goal.specify-returns-in_err-may_stand
 specify-returns-in_err-may_stand t c =
     let p = err_from_is_err_and c.from_residual.result c.from_residual.ensures.1 in
-    rw (p.1, p.2) (words_fault (file_place_of c.args.file.now) (level_of c.args.level) _ (list_of c.args.specifiers.now) _ (rw c.deref.ensures.value at c.in_err-may_stand.ensures))
+    rw (p.1, p.2) (words_fault (file_place_of c.args.file.now) (level_of c.args.level) _ (list_of c.args.specifiers.now) _ (rw c.deref.ensures.value at c.in_err-may_stand.ensures.asked))
 
 pub specify-loop-specifier-init : goal.specify-loop-specifier-init
 specify-loop-specifier-init t c = (inl refl, refl)
@@ -34,7 +34,7 @@ specify-loop-specifier-preserved t c =
     let s = c.specifier-item.result in
     let same = c.deref-specifier-items.ensures.value in
     let at = next items i s (rw same at c.loop-specifier-test.true) (rw same at c.specifier-item.is) in
-    let may = rw c.deref.ensures.value at c.in_ok-may_stand.ensures in
+    let may = rw c.deref.ensures.value at c.in_ok-may_stand.ensures.asked in
     (passed_by (list_of c.args.specifiers.now) (specifier_in s) (list_from (drop (i + 1) items)) (c.is_list.ensures [] ∙ c.if-is_list.false) may.1 (rw at at c.loop-specifier.invariant.0), c.loop-specifier.invariant.1)
 
 pub specify-returns-in_err-ty : goal.specify-returns-in_err-ty
@@ -47,7 +47,7 @@ specify-returns-in_err-ty t c =
     let rest = list_from (drop (i + 1) items) in
     let same = c.deref-specifier-items.ensures.value in
     let at = next items i s (rw same at c.loop-specifier-test.true) (rw same at c.specifier-item.is) in
-    let may = rw c.deref.ensures.value at c.in_ok-may_stand.ensures in
+    let may = rw c.deref.ensures.value at c.in_ok-may_stand.ensures.asked in
     let e = found_list xs (specifier_in s) rest (c.is_list.ensures [] ∙ c.if-is_list.true) (rw at at c.loop-specifier.invariant.0) in
     let h = rw c.loop-specifier.invariant.1 at (c.in_err-ty.ensures (out-Specifiers c.args.specifiers.now).at (named_in rest) (keywords_in xs)) in
     rw (p.1, p.2) (fault_with (file_place_of c.args.file.now) (level_of c.args.level) _ xs (specifier_in s) (named_in rest) _ e may h)
@@ -61,7 +61,7 @@ specify-returns-then-is_list t c =
     let rest = list_from (drop (i + 1) items) in
     let same = c.deref-specifier-items.ensures.value in
     let at = next items i s (rw same at c.loop-specifier-test.true) (rw same at c.specifier-item.is) in
-    let may = rw c.deref.ensures.value at c.in_ok-may_stand.ensures in
+    let may = rw c.deref.ensures.value at c.in_ok-may_stand.ensures.asked in
     let e = found_list xs (specifier_in s) rest (c.is_list.ensures [] ∙ c.if-is_list.true) (rw at at c.loop-specifier.invariant.0) in
     let h = rw c.loop-specifier.invariant.1 at (c.in_ok-ty.ensures (out-Specifiers c.args.specifiers.now).at (named_in rest) (keywords_in xs)) in
     typed_with (file_place_of c.args.file.now) _ (level_of c.args.level) (out-Specifiers c.args.specifiers.now).at xs (specifier_in s) (named_in rest) (type_of c.in_ok-ty.ty) _ e may h (rw c.deref-then-is_list.ensures.value at c.has_const.ensures)
@@ -74,7 +74,7 @@ specify-unlisted-requires t c =
 
 pub specify-returns : goal.specify-returns
 specify-returns t c =
-    let may = rw c.deref.ensures.value at c.in_ok-may_stand.ensures in
+    let may = rw c.deref.ensures.value at c.in_ok-may_stand.ensures.asked in
     let u = rw c.deref-2.ensures.value at (c.unlisted.ensures (level_of c.args.level)) in
     rw c.loop-specifier.invariant.1 at (u may)
 

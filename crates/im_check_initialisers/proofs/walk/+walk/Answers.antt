@@ -43,10 +43,10 @@ elements-returns t c =
 pub initialised-returns-in_err-shaped : goal.initialised-returns-in_err-shaped
 initialised-returns-in_err-shaped t c =
     let p = err_from_is_err_and c.from_residual.result c.from_residual.ensures.1 in
-    rw (p.1, p.2) (misshapen_fault c.args.place.now (type_of c.args.ty.now) c.args.at (initializer_of c.args.i.now) c.table.result.now _ c.table.ensures c.in_err-shaped.ensures)
+    rw (p.1, p.2) (misshapen_fault c.args.place.now (type_of c.args.ty.now) c.args.at (initializer_of c.args.i.now) c.table.result.now _ c.table.ensures c.in_err-shaped.ensures.shaped)
 
 pub initialised-value-requires : goal.initialised-value-requires
-initialised-value-requires t c = (expression_in c.in-One.field-0.now, sym c.in_ok-shaped.ensures.1 ∙ ap shape_in c.in-One.is)
+initialised-value-requires t c = (expression_in c.in-One.field-0.now, sym c.in_ok-shaped.ensures.shaped.1 ∙ ap shape_in c.in-One.is)
 
 pub initialised-elements-requires : goal.initialised-elements-requires
 initialised-elements-requires t c =
@@ -61,21 +61,21 @@ initialised-members-requires t c =
     let i = initializer_of c.args.i.now in
     let e : sizes_of (initializers_from xs) ≡ sizes_of (listed i) = ap sizes_of c.items_of-in-Members.ensures in
     let many : initializer_count (initializers_from xs) ≡ initializer_count (listed i) = ap initializer_count c.items_of-in-Members.ensures in
-    let few = few_of (structs_of c.table.result.now) (type_of c.args.ty.now) i _ c.in_ok-shaped.ensures.0 (sym (ap shape_in c.in-Members.is) ∙ c.in_ok-shaped.ensures.1) in
+    let few = few_of (structs_of c.table.result.now) (type_of c.args.ty.now) i _ c.in_ok-shaped.ensures.shaped.0 (sym (ap shape_in c.in-Members.is) ∙ c.in_ok-shaped.ensures.shaped.1) in
     let all : length xs ≤ length (members_of (structs_of c.table.result.now) c.in-Members.number) = omega (arith, count xs, many, few) in
     (omega (arith, h, e), rw c.table.ensures at all)
 
 pub initialised-returns-in_ok-push_bytes-in-Bytes : goal.initialised-returns-in_ok-push_bytes-in-Bytes
 initialised-returns-in_ok-push_bytes-in-Bytes t c =
-    bytes_put c.args.place.now c.table.result.now c.table.ensures c.in_ok-shaped.ensures.0 (sym (ap shape_in c.in-Bytes.is) ∙ c.in_ok-shaped.ensures.1) c.in_ok-push_bytes-in-Bytes.ensures
+    bytes_put c.args.place.now c.table.result.now c.table.ensures c.in_ok-shaped.ensures.shaped.0 (sym (ap shape_in c.in-Bytes.is) ∙ c.in_ok-shaped.ensures.shaped.1) c.in_ok-push_bytes-in-Bytes.ensures
 
 pub initialised-returns-in-Elements : goal.initialised-returns-in-Elements
 initialised-returns-in-Elements t c =
-    elements_done c.args.place.now c.elements.new.place (type_of c.args.ty.now) c.args.at (initializer_of c.args.i.now) (initializers_from c.items_of.result.now) c.args.items.now.items c.elements.new.items.items c.table.result.now c.elements.result c.table.ensures c.in_ok-shaped.ensures.0 (sym (ap shape_in c.in-Elements.is) ∙ c.in_ok-shaped.ensures.1) c.items_of.ensures c.elements.ensures
+    elements_done c.args.place.now c.elements.new.place (type_of c.args.ty.now) c.args.at (initializer_of c.args.i.now) (initializers_from c.items_of.result.now) c.args.items.now.items c.elements.new.items.items c.table.result.now c.elements.result c.table.ensures c.in_ok-shaped.ensures.shaped.0 (sym (ap shape_in c.in-Elements.is) ∙ c.in_ok-shaped.ensures.shaped.1) c.items_of.ensures c.elements.ensures
 
 pub initialised-returns-in-Members : goal.initialised-returns-in-Members
 initialised-returns-in-Members t c =
-    members_done c.args.place.now c.members.new.place (type_of c.args.ty.now) c.args.at (initializer_of c.args.i.now) (initializers_from c.items_of-in-Members.result.now) c.args.items.now.items c.members.new.items.items c.table.result.now c.members.result c.table.ensures c.in_ok-shaped.ensures.0 (sym (ap shape_in c.in-Members.is) ∙ c.in_ok-shaped.ensures.1) c.items_of-in-Members.ensures c.members.ensures
+    members_done c.args.place.now c.members.new.place (type_of c.args.ty.now) c.args.at (initializer_of c.args.i.now) (initializers_from c.items_of-in-Members.result.now) c.args.items.now.items c.members.new.items.items c.table.result.now c.members.result c.table.ensures c.in_ok-shaped.ensures.shaped.0 (sym (ap shape_in c.in-Members.is) ∙ c.in_ok-shaped.ensures.shaped.1) c.items_of-in-Members.ensures c.members.ensures
 
 pub members-loop-i-init : goal.members-loop-i-init
 members-loop-i-init t c = (refl, none_put c.args.place.now c.args.items.now.items)

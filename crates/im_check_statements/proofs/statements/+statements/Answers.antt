@@ -223,9 +223,9 @@ pub labelled-returns-in_err-default_label-in-Default : goal.labelled-returns-in_
 labelled-returns-in_err-default_label-in-Default t c =
     let p = err_from_is_err_and c.from_residual-in_err-default_label-in-Default.result c.from_residual-in_err-default_label-in-Default.ensures.1 in
     let m = c.in-Default in
-    rw (p.1, p.2, m.is) (k.default_fault c.args.ty c.args.n c.args.position c.args.body.now c.args.labels.now c.args.s.now.at (statement_in m.inner.value) _ c.in_err-default_label-in-Default.ensures)
+    rw (p.1, p.2, m.is) (k.default_fault c.args.ty c.args.n c.args.position c.args.body.now c.args.labels.now c.args.s.now.at (statement_in m.inner.value) _ c.in_err-default_label-in-Default.ensures.added)
 
 pub labelled-returns-in_ok-default_label-in-Default : goal.labelled-returns-in_ok-default_label-in-Default
 labelled-returns-in_ok-default_label-in-Default t c =
     let m = c.in-Default in
-    rw m.is (k.behind_default_result c.args.ty c.args.position c.args.body.now _ _ c.args.s.now.at (statement_in m.inner.value) c.labelled-in-Default.result c.in_ok-default_label-in-Default.ensures (rw c.deref-in-Default.ensures at c.labelled-in-Default.ensures))
+    rw m.is (k.behind_default_result c.args.ty c.args.position c.args.body.now _ _ c.args.s.now.at (statement_in m.inner.value) c.labelled-in-Default.result c.in_ok-default_label-in-Default.ensures.added (rw c.deref-in-Default.ensures at c.labelled-in-Default.ensures))
