@@ -1,18 +1,26 @@
 -- What the relations say of a source's unit, the functions say too.
-use Rattle.std.proofs.Common.{◌≡◌, Option, Some, None, refl, subst}
+use Rattle.std.proofs.Common.{◌≡◌, ℕ, List, Option, Some, None, ◌⊎◌, inl, inr, refl, subst}
+use Rattle.im_fault.specs.declared.fault.Place.{Place}
+use Rattle.im_tok.specs.declared.token.Token.{Token}
 use Rattle.im_ctree.specs.Tree as t
+use Rattle.im_ctree.specs.declared.unit.Tree.{Tree}
 use Rattle.im_ctree.specs.Shape.{tree_of}
+use Rattle.im_front.specs.Reading.{place_of_token}
+use Rattle.im_typed.specs.Program.{Prog}
+use Rattle.im_check.specs.im_rules_limits.Limits as limits
 use Rattle.im_check.specs.im_rules.TypedUnit.{TypedUnit}
 use Rattle.im_check.specs.im_rules.UnitBreaks.{UnitBroken}
 use Rattle.im_check.specs.im_rules.Laws.{UnitBreaksNone}
 use Rattle.im_rules_asked.specs.Asked.{Fault}
 use Rattle.im_rules_asked.specs.Units.{unit, first_fault_of}
 use Rattle.im_rules_asked.specs.Laws.{AskedIsUnit, UnitIsAsked, BrokenIsAsked}
-use Rattle.im_rules_asked.specs.Laws.{FaultlessIsTyped, TypedIsFaultless}
+use Rattle.im_rules_asked.specs.Laws.{FaultlessIsTyped, TypedIsFaultless, IsTypedOrBroken}
 use Rattle.im_rules_asked.specs.Laws.{NoExcessIsWithin, WithinHasNoExcess}
+use Rattle.im_driver.specs.Compiled.{IsTreeOf, IsProgramOf, IsRuleBroken}
 use Rattle.im_driver_laws.specs.Rules.{OneUnitLaw, ProgramIsTypedLaw, TypedIsProgramLaw}
 use Rattle.im_driver_laws.specs.Rules.{RefusedIsFaultLaw, HasFirstFault, FaultlessHasProgramLaw}
 use Rattle.im_driver_laws.specs.Rules.{ProgramHasNoFaultLaw, RefusedHasFaultLaw}
+use Rattle.im_driver_laws.specs.Rules.{ProgramOrBrokenLaw, NeverBothLaw}
 
 pub is_typed : UnitIsAsked → WithinHasNoExcess → ProgramIsTypedLaw
 is_typed asked few source prog h = record {
@@ -69,3 +77,24 @@ has_one one breaks typed source place rule tokens tree r is_tree =
     let broken = subst (λ (z : t.Tree). UnitBroken z rule r.token) same r.broken in
     let u = tree_of tree in
     one_of u (first_fault_of u) refl (λ none. breaks u (unit u) rule r.token (typed u none) broken)
+
+module _ (source : List ℕ) (tokens : List Token) (tree : Tree) (is_tree : IsTreeOf source tokens tree) (within : limits.IsWithinLimits (tree_of tree)) where
+  as_source : ((prog : Prog) × TypedUnit (tree_of tree) prog) ⊎ ((rule : ℕ) × (token : ℕ) × UnitBroken (tree_of tree) rule token) →
+      ((prog : Prog) × IsProgramOf source prog) ⊎ ((place : Place) × (rule : ℕ) × IsRuleBroken source place rule)
+  as_source (inl (prog, typed)) = inl (
+    prog,
+    record { tokens = tokens; tree = tree; is_tree = is_tree; typed = typed; within = within },
+  )
+  as_source (inr (rule, token, broken)) = inr (
+    place_of_token source tokens token,
+    rule,
+    record { tokens = tokens; tree = tree; is_tree = is_tree; token = token; broken = broken; is_place = refl },
+  )
+
+pub either : IsTypedOrBroken → ProgramOrBrokenLaw
+either typed_or_broken source tokens tree is_tree within = as_source source tokens tree is_tree within (typed_or_broken (tree_of tree))
+
+pub never_both : OneUnitLaw → UnitBreaksNone → NeverBothLaw
+never_both one none source prog place rule p b =
+    let same = one source p.tokens b.tokens p.tree b.tree p.is_tree b.is_tree in
+    none (tree_of b.tree) prog rule b.token (subst (λ (z : t.Tree). TypedUnit z prog) same p.typed) b.broken

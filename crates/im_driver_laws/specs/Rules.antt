@@ -1,6 +1,6 @@
 -- What a source's answer says of its typing and of the limits, in the words of the functions of
 -- im_rules_asked.
-use Rattle.std.specs.Prelude.{◌≡◌, ℕ, List, Some, None}
+use Rattle.std.specs.Prelude.{◌≡◌, ◌⊎◌, ℕ, List, Some, None}
 use Rattle.im_fault.specs.declared.fault.LineFault.TheVariants.{Rule}
 use Rattle.im_fault.specs.declared.fault.Place.{Place}
 use Rattle.im_fault.specs.declared.fault.Quantity.{Quantity}
@@ -16,7 +16,7 @@ use Rattle.im_check.specs.im_rules_limits.Limits as limits
 use Rattle.im_rules_asked.specs.Asked.{Fault}
 use Rattle.im_rules_asked.specs.Units.{Typed, Breaks, unit, first_fault_of}
 use Rattle.im_rules_asked.specs.Limits.{IsExcess, first_over, first_excess_of}
-use Rattle.im_driver.specs.Compiled.{IsTreeOf, IsProgramOf, IsRefused}
+use Rattle.im_driver.specs.Compiled.{IsTreeOf, IsProgramOf, IsRuleBroken, IsRefused}
 
 -- the tokens of a source spell at most one unit
 abbrev pub OneUnitLaw : Type 0
@@ -54,6 +54,19 @@ abbrev pub RefusedIsFaultLaw : Type 0
 RefusedIsFaultLaw =
     (source : List ℕ) (place : Place) (rule : ℕ) → IsRefused source (Line place (Rule rule)) →
     IsFaultAt source place rule
+
+-- a source that has a tree and is within the limits has a program, or a node of its tree breaks a rule
+abbrev pub ProgramOrBrokenLaw : Type 0
+ProgramOrBrokenLaw =
+    (source : List ℕ) (tokens : List Token) (tree : Tree) → IsTreeOf source tokens tree →
+    limits.IsWithinLimits (tree_of tree) →
+    ((prog : Prog) × IsProgramOf source prog) ⊎ ((place : Place) × (rule : ℕ) × IsRuleBroken source place rule)
+
+-- and never both
+abbrev pub NeverBothLaw : Type 0
+NeverBothLaw =
+    (source : List ℕ) (prog : Prog) (place : Place) (rule : ℕ) → IsProgramOf source prog →
+    IsRuleBroken source place rule → ⊥
 
 -- the first fault of the source's unit, which is computed
 

@@ -4,13 +4,15 @@ ghost use Rattle.im_driver_laws.specs.Rules.{OneUnitLaw, ProgramIsTypedLaw, Type
 ghost use Rattle.im_driver_laws.specs.Rules.{RefusedIsFaultLaw, FaultlessHasProgramLaw};
 ghost use Rattle.im_driver_laws.specs.Rules.{ProgramHasNoFaultLaw, RefusedHasFaultLaw};
 ghost use Rattle.im_driver_laws.specs.Rules.{ProgramHasNoExcessLaw, RefusedIsExcessLaw};
-ghost use Rattle.im_driver_laws.specs.Rules.{StaticsAreLastLaw};
+ghost use Rattle.im_driver_laws.specs.Rules.{StaticsAreLastLaw, ProgramOrBrokenLaw, NeverBothLaw};
 
 use im_ctree::unique_unit_law;
 use im_front::one_word_law;
 use im_lex::one_reading;
 use im_rules::laws::{typed_breaks_none_law, typed_once_law};
-use im_rules_asked::laws::{first_excess_law, first_fault_law, units_agree_law};
+use im_rules_asked::laws::{
+    first_excess_law, first_fault_law, typed_or_broken_law, units_agree_law,
+};
 use im_typed::more_fuel_law;
 
 /// A source has one program at most. Of a right source, within the limits by its own counts, no
@@ -55,6 +57,17 @@ pub fn source_faults_law()
     typed_breaks_none_law();
     first_fault_law();
     first_excess_law();
+}
+
+/// A source that has a tree and is within the limits has a program, or a node of its tree breaks a
+/// rule; and never both.
+pub fn program_or_broken_law()
+    ensures either { ProgramOrBrokenLaw }
+    ensures never_both { NeverBothLaw }
+{
+    source_typed_law();
+    typed_or_broken_law();
+    typed_breaks_none_law();
 }
 
 /// A source with a program has no first excess. One that is refused for a limit (parameters, bytes

@@ -7,5 +7,6 @@
 mod laws;
 
 pub use laws::{
-    ended_source_law, right_source_law, source_faults_law, source_limits_law, source_typed_law,
+    ended_source_law, program_or_broken_law, right_source_law, source_faults_law,
+    source_limits_law, source_typed_law,
 };
