@@ -1,4 +1,5 @@
 pub mod Above
+pub mod BrokenExpressions
 pub mod Built
 pub mod BuiltBodies
 pub mod BuiltUnits
@@ -10,6 +11,7 @@ pub mod FaultyExpressions
 pub mod FaultyUnits
 pub mod Finding
 pub mod FirstFaults
+pub mod Foremost
 pub mod Right
 pub mod RightBodies
 pub mod RightUnits
