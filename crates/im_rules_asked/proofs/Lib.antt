@@ -22,3 +22,4 @@ pub mod SizedExpressions
 pub mod SizedUnits
 pub mod Stops
 pub mod Terms
+pub mod WholeStructs
