@@ -1,4 +1,5 @@
 pub mod Above
+pub mod BrokenBodies
 pub mod BrokenExpressions
 pub mod Built
 pub mod BuiltBodies
