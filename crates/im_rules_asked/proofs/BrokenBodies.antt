@@ -22,8 +22,8 @@ use Rattle.im_rules_asked.specs.Statements.{local_type, past_local, locals, loca
 use Rattle.im_rules_asked.proofs.Right.{own}
 use Rattle.im_rules_asked.proofs.Built.{built, built_declarator}
 use Rattle.im_rules_asked.proofs.BuiltBodies.{list_of, shape_list, built_declaration, built_beginning, built_statement, typed_of, labelled_of}
-use Rattle.im_rules_asked.proofs.RightBodies.{value_no_list}
-use Rattle.im_rules_asked.proofs.WholeStructs.{AreWhole, IsWhole, is_fit, complete_fit, no_elements, no_members, elements_fit, members_few, places_many, has_shape}
+use Rattle.im_rules_asked.proofs.RightBodies.{no_elements, no_members, value_no_list}
+use Rattle.im_rules_asked.proofs.WholeStructs.{AreWhole, IsWhole, is_fit, complete_fit, elements_fit, members_few, places_many, has_shape}
 use Rattle.im_rules_asked.proofs.Foremost.{Foremost, none_asked, none_sized, of_leaf, only_rule, of_one, of_both, of_each, of_first}
 use Rattle.im_rules_asked.proofs.BrokenExpressions.{broken_expression, broken_declarator}
 

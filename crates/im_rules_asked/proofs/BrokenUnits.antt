@@ -21,16 +21,15 @@ use Rattle.im_rules.specs.UnitBreaks.{FileNode, some_externals, an_external, som
 use Rattle.im_rules_asked.specs.Asked.{Fault}
 use Rattle.im_rules_asked.specs.Expressions.{declared}
 use Rattle.im_rules_asked.specs.Initialisers.{items}
-use Rattle.im_rules_asked.specs.Units.{number_of, number_asked, past_enumerator, enumerators_asked, fields_asked, fields_of, members, specify, named_asked, members_asked, specifiers_asked, constants_asked, first_values_asked, static_type, past_static, past_given, declarations_asked, own as own_of, start_of_body, external, external_asked, externals_asked, unit, unit_asked, first_fault_of}
+use Rattle.im_rules_asked.specs.Units.{number_of, number_asked, past_enumerator, enumerators_asked, fields_asked, fields_of, specify, named_asked, members_asked, specifiers_asked, constants_asked, first_values_asked, static_type, past_static, past_given, declarations_asked, own as own_of, start_of_body, external, external_asked, externals_asked, unit, unit_asked, first_fault_of}
 use Rattle.im_rules_asked.proofs.Right.{so, own, of_same, to_same}
 use Rattle.im_rules_asked.proofs.Built.{built_declarator, built_parameters}
 use Rattle.im_rules_asked.proofs.BuiltBodies.{built_items}
 use Rattle.im_rules_asked.proofs.BuiltUnits.{built_number, built_fields, built_members, built_specify, built_external, built_externals, built_unit}
 use Rattle.im_rules_asked.proofs.FirstFaults.{without_fault}
 use Rattle.im_rules_asked.proofs.OwnParameters.{own_right}
-use Rattle.im_rules_asked.proofs.WholeStructs.{is_fit}
-use Rattle.im_rules_asked.proofs.WholePlaces.{Whole, specify_whole, fields_whole, external_whole, body_whole}
-use Rattle.im_rules_asked.proofs.Foremost.{Foremost, foremost, right_has_none, none_asked, none_sized, of_leaf, of_one, of_then, of_both, of_each, of_first, of_row}
+use Rattle.im_rules_asked.proofs.WholePlaces.{Whole, specify_whole, external_whole, body_whole}
+use Rattle.im_rules_asked.proofs.Foremost.{Foremost, foremost, no_foremost, none_asked, none_sized, of_leaf, of_one, of_then, of_both, of_each, of_first, of_row}
 use Rattle.im_rules_asked.proofs.BrokenExpressions.{broken_expression, broken_declarator}
 use Rattle.im_rules_asked.proofs.BrokenBodies.{broken_given, broken_row}
 
@@ -131,8 +130,8 @@ broken_first xs q f d (t.an_initializer i) ds w p m h =
     let g = past_static xs q f d (t.an_initializer i) in
     let u = f.context.unit in
     let fit = fit_of (is_typedef xs) (is_function a) (is_complete (length f.context.known) a) (a_typedef y.constant a)
-      (a_function (callee_named u (name_in y.name)) y.constant a) y.constant a
-      (static_object (place_in (name_in y.name) u.statics)) m.0 m.1.1.1.1.0 in
+    (a_function (callee_named u (name_in y.name)) y.constant a) y.constant a
+    (static_object (place_in (name_in y.name) u.statics)) m.0 m.1.1.1.1.0 in
     of_first h (λ x. in_static_initialiser p (broken_given g.context a 0 i w fit x))
     (λ r x. in_static_values p (built_items g.context a 0 i r)
     (refused_item (past_strings (strings_given g.context.known a i) g) (items g.context a 0 i) x))
@@ -161,7 +160,7 @@ broken_external f (t.function_definition (t.specifiers at xs) d (t.block at' is)
     (λ q z. let e = built_declarator (specify f xs).place.context (specify f xs).type d q in of_each z
     (λ x. let l = of_leaf x in head_at l.0 (at_head s e l.1))
     (λ m x. let l = of_leaf x in head_at l.0 (at_function s e l.1))
-    (λ m n v. of_first v (λ x. absurd (right_has_none (of_same (own_right e)) x))
+    (λ m n v. of_first v (λ x. absurd (no_foremost (of_same (own_right e)) x))
     (λ o x. in_body s e
     (built_parameters (in_new_scope (specify f xs).place.context) 0 (own_of d) (to_same o))
     (broken_row (start_of_body xs (specify f xs).place d (declared (specify f xs).place.context (specify f xs).type d)) is

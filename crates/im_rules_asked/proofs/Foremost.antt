@@ -1,9 +1,9 @@
 -- The first fault of a tree of demands, as a fact that tells what stands before it: all that is right.
-use Rattle.std.proofs.Common.{◌≡◌, ◌⊎◌, inl, inr, ℕ, List, [], ◌∷◌, Option, Some, None, refl, sym, subst, true, false}
+use Rattle.std.proofs.Common.{◌≡◌, ◌⊎◌, inl, inr, ℕ, List, [], ◌∷◌, Some, None, refl, sym, subst, false}
 use Rattle.im_rules.specs.Demands.{Demand, asks, Refuses}
 use Rattle.im_rules_asked.specs.Asked.{Asked, node, sized, Parts, no_part, beside, behind, HasFault, HasFaultIn, Fault, first_refused, first_fault, first_in}
 use Rattle.im_rules_asked.proofs.Right.{Right, so, RightParts, all_so, beside_last, beside_rest, behind_last, behind_rest, right_has_no_fault}
-use Rattle.im_rules_asked.proofs.FirstFaults.{either_of, some_refused, without_fault, without_faults}
+use Rattle.im_rules_asked.proofs.FirstFaults.{either_of, some_refused, without_faults}
 
 mutual
   pub data Foremost : ℕ → ℕ → Asked → Type 0 where
@@ -79,8 +79,8 @@ mutual
   a_fault_in (last_behind (all_so p) h) = inr (p, a_fault h)
   a_fault_in (rest_behind h) = inl (a_fault_in h)
 
-pub right_has_none : {r k : ℕ} {a : Asked} → Right a → Foremost r k a → ⊥
-right_has_none {r = r} {k = k} {a = a} (so p) h = right_has_no_fault a r k p (a_fault h)
+pub no_foremost : {r k : ℕ} {a : Asked} → Right a → Foremost r k a → ⊥
+no_foremost {r = r} {k = k} {a = a} (so p) h = right_has_no_fault a r k p (a_fault h)
 
 -- told apart: of a node that asks nothing, of sizes, of a node without parts
 

@@ -1,10 +1,10 @@
 -- Where a function's declarator is right, so are the parameters next to its name.
-use Rattle.std.proofs.Common.{◌≡◌, ◌∙◌, ℕ, ◌+◌, List, [], ◌∷◌, ◌++◌, length, refl, sym, ap, subst, arith}
+use Rattle.std.proofs.Common.{◌≡◌, ◌∙◌, ℕ, ◌+◌, List, [], ◌∷◌, ◌++◌, length, refl, ap, subst, arith}
 use Rattle.im_rules.specs.im_word.Words.{Name}
 use Rattle.im_rules.specs.im_ctree.Tree as t
 use Rattle.im_rules.specs.Strings.{strings_of_declarator, strings_of_core, strings_of_suffixes}
 use Rattle.im_rules.specs.Outline.{Nearest, bare, a_star, a_length, parameters, star_or_bare, suffix_or, inner_or, nearest, nearest_in}
-use Rattle.im_rules.specs.Context.{Context, in_new_scope, behind_strings, behind_core}
+use Rattle.im_rules.specs.Context.{Context, in_new_scope, behind_strings}
 use Rattle.im_rules.specs.Declared.{Qualified, Declared}
 use Rattle.im_rules.specs.Typed.{Declares, of_declarator, DeclaresIn, of_nothing, of_name, of_inner, Suffixed, no_suffix, of_array, of_open_array, of_function}
 use Rattle.im_rules.specs.FileScope.{own_parameters}
@@ -44,7 +44,7 @@ mutual
 same_context : (c : Context) (ss : List Name) → ss ≡ [] → behind_strings ss c ≡ c
 same_context c ss e =
     let none : c.next_string + length ss ≡ c.next_string =
-      ap (λ z. c.next_string + length z) e ∙ omega arith in
+    ap (λ z. c.next_string + length z) e ∙ omega arith in
     ap (λ n. record c { next_string = n }) none
 
 -- the parameters next to a name

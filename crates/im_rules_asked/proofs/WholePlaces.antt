@@ -1,5 +1,5 @@
 -- What is typed at file scope leaves each member of each struct with a complete type.
-use Rattle.std.proofs.Common.{◌≡◌, ◌∙◌, ◌≤◌, ℕ, ℤ, ◌+◌, List, [], ◌∷◌, ◌++◌, length, Option, Some, None, refl, ap, subst, arith}
+use Rattle.std.proofs.Common.{◌≡◌, ◌∙◌, ◌≤◌, ℕ, ℤ, ◌+◌, List, [], ◌∷◌, length, Option, Some, None, refl, ap, subst, arith}
 use Rattle.im_rules.specs.im_word.Words.{Name}
 use Rattle.im_rules.specs.im_ctree.Tree as t
 use Rattle.im_rules.specs.im_ctree.declared.specifier.SpecifierWord.{SpecifierWord}
@@ -71,9 +71,10 @@ mutual
       let r = members_grown rest (subst (λ z. IsWhole z) k.0 p.whole) in
       let l = ap length k.0 in
       let m = p.longer in
-      let n = r.0.longer in
-      (record { whole = r.0.whole; longer = omega (arith, l, m, n) },
-      whole_both (many g) fields more (whole_more (many a) (many g) fields (omega (arith, l, n)) k.1) r.1)
+      let n = r.0.longer in (
+        record { whole = r.0.whole; longer = omega (arith, l, m, n) },
+        whole_both (many g) fields more (whole_more (many a) (many g) fields (omega (arith, l, n)) k.1) r.1,
+      )
 
 pub specify_whole : {l : Level} {f g : FilePlace} {xs : t.SpecifierList} {q : Qualified}
     → Specify l f xs q g → Whole f → Whole g

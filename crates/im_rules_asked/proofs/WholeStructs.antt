@@ -1,6 +1,6 @@
 -- Each member of a struct whose list has ended has a complete type, so an initialiser of an object that rule 16 doesn't refuse
 -- has a shape, and what stands in its braces has a place.
-use Rattle.std.proofs.Common.{◌≡◌, ◌≤◌, ℕ, zero, suc, ◌+◌, Bool, true, false, ◌&&◌, ◌||◌, nat_lt, nat_le, List, [], ◌∷◌, ◌++◌, length, length-append, Some, refl, sym, ap, subst, arith}
+use Rattle.std.proofs.Common.{◌≡◌, ◌≤◌, ℕ, zero, suc, Bool, true, false, ◌&&◌, ◌||◌, nat_lt, List, [], ◌∷◌, ◌++◌, length, length-append, Some, refl, ap, subst, arith}
 use Rattle.std.specs.Prelude.{if◌then◌else◌}
 use Rattle.std.proofs.lemmas.Bool.Decides.{nat_tests}
 use Rattle.im_rules.specs.im_ctree.Tree as t
@@ -8,9 +8,9 @@ use Rattle.im_rules.specs.im_ctype.Types.{CType, void, integer, pointer, array, 
 use Rattle.im_rules.specs.im_ctype.Layout.{Layout, empty_layout, layout_in, layouts, with_member}
 use Rattle.im_rules.specs.im_ctype.Members.{places_from, places}
 use Rattle.im_rules.specs.Rules.{initializer_count, is_string_for, is_list_for, is_one_expression, rule_16}
-use Rattle.im_rules.specs.Initialisers.{Shape, elements, members, misshapen, shape, string_shape, one_shape, element_shape, struct_shape}
+use Rattle.im_rules.specs.Initialisers.{elements, members, misshapen, shape, string_shape, one_shape, element_shape, struct_shape}
 use Rattle.im_rules_asked.proofs.Counting.{most_of}
-use Rattle.im_rules_asked.proofs.RightBodies.{is_list}
+use Rattle.im_rules_asked.proofs.RightBodies.{is_list, no_elements, no_members}
 
 -- where so many structs have their member lists
 abbrev pub AreWhole : ℕ → List Member → Type 0
@@ -101,13 +101,6 @@ string_no_list e k (t.more_initializers (t.value_initializer (t.string_literal a
     refl
 string_no_list e k (t.more_initializers (t.value_initializer x) is) = refl
 string_no_list e k (t.more_initializers (t.braced_initializer j js) is) = refl
-
-pub no_elements : {s : Shape} {e : CType} {is : t.Initializers} → is_list s ≡ false
-    → s ≡ elements e is → ⊥
-no_elements p q = cc (p, ap is_list q)
-
-pub no_members : {s : Shape} {n : ℕ} {is : t.Initializers} → is_list s ≡ false → s ≡ members n is → ⊥
-no_members p q = cc (p, ap is_list q)
 
 -- elements of an array are fit where it is
 
