@@ -22,7 +22,7 @@ use Rattle.im_rules_asked.proofs.Right.{of_node, of_none, of_one}
 use Rattle.im_rules_asked.proofs.Terms.{term_of, declared_of}
 use Rattle.im_rules_asked.proofs.Rightness.{rightly, declarator_rightly}
 use Rattle.im_rules_asked.proofs.BuiltBodies.{list_of, shape_list, built_statement, labelled_of}
-use Rattle.im_rules_asked.proofs.RightBodies.{is_list, value_no_list, declaration_right, beginning_right, added_of, site_of, begun_of, statement_right, labelled_right}
+use Rattle.im_rules_asked.proofs.RightBodies.{no_elements, no_members, value_no_list, declaration_right, beginning_right, added_of, site_of, begun_of, statement_right, labelled_right}
 use Rattle.im_rules_asked.proofs.Faults.{Finding, a_fault, Found, here_faulty, in_one, in_first, in_second, in_first_of_three, in_second_of_three, in_earlier, in_later, refused_1}
 use Rattle.im_rules_asked.proofs.FaultyExpressions.{node_asked, expression_faulty}
 
@@ -92,13 +92,6 @@ members_found c a n {w = w} token {is = is} p q h =
     (sym p)
     (subst (λ ks. Found w (among_asked c (in_order (members_of c.known n)
     (places c.known n)) ks)) (sym (ap (λ z. list_of z is) p) ∙ q) h)
-
-no_elements : {s : Shape} {b : CType} {is : t.Initializers} → is_list s ≡ false → s ≡ elements b is
-    → ⊥
-no_elements p q = cc (p, ap is_list q)
-
-no_members : {s : Shape} {n : ℕ} {is : t.Initializers} → is_list s ≡ false → s ≡ members n is → ⊥
-no_members p q = cc (p, ap is_list q)
 
 pub in_elements_found : (c : Context) (a b : CType) {w : Finding} (i : t.Initializer) {js : t.Initializers}
     → shape a i ≡ elements b js → Found w (among_asked c (side_by_side b) js)

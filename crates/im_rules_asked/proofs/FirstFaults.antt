@@ -14,7 +14,7 @@ none_right : (e f : Option Fault) → or_else e f ≡ None → f ≡ None
 none_right None f p = p
 none_right (Some e) f p = absurd (cc)
 
-either_of : (e f : Option Fault) (g : Fault) → or_else e f ≡ Some g
+pub either_of : (e f : Option Fault) (g : Fault) → or_else e f ≡ Some g
     → (e ≡ Some g) ⊎ ((e ≡ None) × (f ≡ Some g))
 either_of None f g p = inr (refl, p)
 either_of (Some e) f g p = inl p

@@ -1,4 +1,7 @@
 pub mod Above
+pub mod BrokenBodies
+pub mod BrokenExpressions
+pub mod BrokenUnits
 pub mod Built
 pub mod BuiltBodies
 pub mod BuiltUnits
@@ -10,6 +13,8 @@ pub mod FaultyExpressions
 pub mod FaultyUnits
 pub mod Finding
 pub mod FirstFaults
+pub mod Foremost
+pub mod OwnParameters
 pub mod Right
 pub mod RightBodies
 pub mod RightUnits
@@ -20,3 +25,5 @@ pub mod SizedExpressions
 pub mod SizedUnits
 pub mod Stops
 pub mod Terms
+pub mod WholePlaces
+pub mod WholeStructs

@@ -1,5 +1,5 @@
 -- Of an initialiser, a statement or a block that is typed, all that is asked is so.
-use Rattle.std.proofs.Common.{◌≡◌, ℕ, List, Option, refl, sym, subst, Bool, true, false}
+use Rattle.std.proofs.Common.{◌≡◌, ℕ, List, Option, refl, sym, subst, ap, Bool, true, false}
 use Rattle.std.specs.Prelude.{if◌then◌else◌}
 use Rattle.im_rules.specs.im_ctree.Tree as t
 use Rattle.im_rules.specs.im_typed.declared.statement.Case.{Case}
@@ -31,6 +31,13 @@ is_list (members n is) = true
 is_list (one e) = false
 is_list (bytes e s) = false
 is_list misshapen = false
+
+pub no_elements : {s : Shape} {e : CType} {is : t.Initializers} → is_list s ≡ false → s ≡ elements e is
+    → ⊥
+no_elements p q = cc (p, ap is_list q)
+
+pub no_members : {s : Shape} {n : ℕ} {is : t.Initializers} → is_list s ≡ false → s ≡ members n is → ⊥
+no_members p q = cc (p, ap is_list q)
 
 string_no_list : (e : CType) (x : t.Expression)
     → is_list (string_shape e (t.value_initializer x)) ≡ false

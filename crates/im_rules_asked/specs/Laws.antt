@@ -1,5 +1,5 @@
 -- What is said of these functions.
-use Rattle.std.specs.Prelude.{◌≡◌, ℕ, Some, None}
+use Rattle.std.specs.Prelude.{◌≡◌, ◌⊎◌, ℕ, Some, None}
 use Rattle.im_rules.specs.im_ctree.Tree as t
 use Rattle.im_rules.specs.im_typed.Program.{Prog}
 use Rattle.im_rules.specs.Context.{Context}
@@ -66,6 +66,15 @@ TypedIsFaultless = (u : t.Tree) (g : Prog) → TypedUnit u g → first_fault_of 
 
 abbrev pub FirstFaultIsOne : Type 0
 FirstFaultIsOne = (u : t.Tree) (f : Fault) → first_fault_of u ≡ Some f → Breaks f.rule f.token u
+
+-- what stands before a first fault is right, so it is one by the relations too: the node whose first token it has breaks the rule
+
+abbrev pub FirstFaultIsBroken : Type 0
+FirstFaultIsBroken = (u : t.Tree) (f : Fault) → first_fault_of u ≡ Some f → UnitBroken u f.rule f.token
+
+-- so a unit is typed to a program or has a node that breaks a rule; never both, as `typed_breaks_none_law` of im_rules says
+abbrev pub IsTypedOrBroken : Type 0
+IsTypedOrBroken = (u : t.Tree) → ((g : Prog) × TypedUnit u g) ⊎ ((rule : ℕ) × (token : ℕ) × UnitBroken u rule token)
 
 -- the sizes that the relations count in a unit are those that the functions give
 

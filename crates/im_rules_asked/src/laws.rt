@@ -4,6 +4,7 @@ ghost use Rattle.im_rules_asked.specs.Laws.{ExpressionIsAsked, NameIsAsked, Decl
 ghost use Rattle.im_rules_asked.specs.Laws.{AskedIsExpression, AskedIsName, AskedIsDeclarator};
 ghost use Rattle.im_rules_asked.specs.Laws.{UnitIsAsked, AskedIsUnit, BrokenIsAsked};
 ghost use Rattle.im_rules_asked.specs.Laws.{FaultlessIsTyped, TypedIsFaultless, FirstFaultIsOne};
+ghost use Rattle.im_rules_asked.specs.Laws.{FirstFaultIsBroken, IsTypedOrBroken};
 ghost use Rattle.im_rules_asked.specs.Laws.{SizedHasSize, HasSizeIsSized};
 ghost use Rattle.im_rules_asked.specs.Laws.{ExceedsIsExcess, ExcessExceeds, NoExcessIsWithin};
 ghost use Rattle.im_rules_asked.specs.Laws.{WithinHasNoExcess, FirstExcessIsOne, SmallHasNoLarge};
@@ -41,11 +42,18 @@ pub fn units_agree_law()
 {}
 
 /// `first_fault_of` decides whether `im_rules` types a unit: it is `None` exactly where it does,
-/// and else a rule and the first token of a node that breaks it.
+/// and else a rule and the first token of a node that breaks it, by these functions and by the
+/// relations of `im_rules`.
 pub fn first_fault_law()
     ensures none { FaultlessIsTyped }
     ensures typed { TypedIsFaultless }
     ensures some { FirstFaultIsOne }
+    ensures broken { FirstFaultIsBroken }
+{}
+
+/// By the relations of `im_rules` each unit is typed to a program or has a node that breaks a rule.
+pub fn typed_or_broken_law()
+    ensures either { IsTypedOrBroken }
 {}
 
 /// The sizes of types, in bytes, that `im_rules_limits` counts in a unit are exactly those that
