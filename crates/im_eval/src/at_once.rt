@@ -1,9 +1,10 @@
-ghost use Rattle.std.specs.Prelude.{◌≡◌, ◌≤◌, ◌∷◌, ℕ, List, Ok};
+ghost use Rattle.std.specs.Prelude.{◌≡◌, ◌≤◌, ◌∷◌, ℕ, IfErr, List, Ok};
 ghost use Rattle.im_typed.specs.Runs.{Answer, State};
 ghost use Rattle.im_typed.specs.Values.{Values};
 ghost use Rattle.im_eval_machine.specs.Settings.{AreLayoutsOf, setting_of};
 ghost use Rattle.im_eval_machine.specs.Shown.{IsIn};
 ghost use Rattle.im_eval_machine.specs.declared.code.Code.{Code};
+ghost use Rattle.im_eval_machine.specs.declared.stopped.Stopped.TheVariants.{OutOfMemory};
 ghost use Rattle.im_eval_tasks.specs.Stack.{pending, runs};
 ghost use Rattle.im_eval_tasks.specs.declared.steps.Now.TheVariants as now;
 ghost use Rattle.im_eval_tasks.specs.declared.tasks.Task.{Task};
@@ -22,9 +23,10 @@ use std::alloc::Global;
 
 /// The place that is next, where a look finds it.
 fn place_ahead(machine: &Machine, here: Here, place: &Place) -> Result<Option<Value>, Stopped>
-    ensures { (code : Code) (n : ℕ) (ts : List Task) (s : State) → IsIn machine.now s
+    ensures ahead { (code : Code) (n : ℕ) (ts : List Task) (s : State) → IsIn machine.now s
         → LooksAhead placed code n here ts result machine.now s
         (runs (types_of code) (setting_of code) n here ts (now.Locate place.entry) s) }
+    ensures spared { IfErr result (λ stop. stop ≡ OutOfMemory → ⊥) }
 {
     match look_place(&machine.memory, here, place) {
         Ok(found) => Ok(Some(found)),
@@ -35,9 +37,10 @@ fn place_ahead(machine: &Machine, here: Here, place: &Place) -> Result<Option<Va
 
 /// The value of the expression that is next, where a look gives it.
 fn value_ahead(machine: &Machine, here: Here, expr: &Expr) -> Result<Option<Value>, Stopped>
-    ensures { (code : Code) (n : ℕ) (ts : List Task) (s : State) → IsIn machine.now s
+    ensures ahead { (code : Code) (n : ℕ) (ts : List Task) (s : State) → IsIn machine.now s
         → LooksAhead valued code n here ts result machine.now s
         (runs (types_of code) (setting_of code) n here ts (now.Evaluate expr.entry) s) }
+    ensures spared { IfErr result (λ stop. stop ≡ OutOfMemory → ⊥) }
 {
     match look(&machine.memory, here, expr) {
         Ok(value) => Ok(Some(value)),
@@ -96,9 +99,10 @@ fn evaluate<'p>(
     here: Here,
     expr: &'p Expr,
 ) -> Result<Next<'p>, Stopped>
-    ensures { (n : ℕ) (ts : List Task) (s : State) → IsIn machine.now s
+    ensures goes { (n : ℕ) (ts : List Task) (s : State) → IsIn machine.now s
         → Goes code.entry n here ts result machine.now (runs (types_of code.entry)
         (setting_of code.entry) n here ts (now.Evaluate expr.entry) s) }
+    ensures spared { IfErr result (λ stop. stop ≡ OutOfMemory → ⊥) }
 {
     match value_ahead(machine, here, expr)? {
         Some(value) => Ok(Next::Just(Now::Value(Found::One(value)))),
@@ -134,9 +138,10 @@ fn hasten_now<'p>(
     here: Here,
     now: Now<'p>,
 ) -> Result<Next<'p>, Stopped>
-    ensures { (n : ℕ) (ts : List Task) (s : State) → IsIn machine.now s
+    ensures goes { (n : ℕ) (ts : List Task) (s : State) → IsIn machine.now s
         → Goes code.entry n here ts result machine.now (runs (types_of code.entry)
         (setting_of code.entry) n here ts now.entry s) }
+    ensures spared { IfErr result (λ stop. stop ≡ OutOfMemory → ⊥) }
 {
     match now {
         Now::Evaluate(expr) => evaluate(code, machine, here, expr),

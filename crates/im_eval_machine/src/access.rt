@@ -1,4 +1,4 @@
-ghost use Rattle.std.specs.Prelude.{◌≡◌, ◌+◌, ℕ, ◌∷◌, []};
+ghost use Rattle.std.specs.Prelude.{◌≡◌, ◌+◌, ℕ, ◌∷◌, [], IfErr};
 ghost use Rattle.im_ctype.specs.Layout.{layout_at, layouts};
 ghost use Rattle.im_store.specs.Access.{at_place, read_cell, read_cells, write_cell, write_cells};
 ghost use Rattle.im_store.specs.Objects.{Store};
@@ -11,6 +11,7 @@ ghost use Rattle.im_eval_store.specs.Shown.{Checks, object_of, shown};
 ghost use Rattle.im_eval_machine.specs.Accesses.{ReadsCells};
 ghost use Rattle.im_eval_machine.specs.Settings.{AreLayoutsOf};
 ghost use Rattle.im_eval_machine.specs.Shown.{IsLook, IsStep, nothing, shown_all, values};
+ghost use Rattle.im_eval_machine.specs.declared.stopped.Stopped.TheVariants.{OutOfMemory};
 
 use crate::code::Code;
 use crate::found::Found;
@@ -25,7 +26,8 @@ use std::alloc::Global;
 
 /// The value of a scalar, where it is used (C11 6.2.4, 6.9.1).
 pub fn used(machine: &Machine, found: &Found) -> Result<Value, Stopped>
-    ensures { IsLook shown result machine.now (typed_values.used (values found.now)) }
+    ensures look { IsLook shown result machine.now (typed_values.used (values found.now)) }
+    ensures spared { IfErr result (λ stop. stop ≡ OutOfMemory → ⊥) }
 {
     match found.get(0) {
         None => Err(Stopped::Undefined(Undefined::MissingResult)),
@@ -159,9 +161,10 @@ pub fn write_at(
     found: &Found,
 ) -> Result<(), Stopped>
     requires { AreLayoutsOf code.prog.now code.layouts.now }
-    ensures { IsStep (λ done. values found.now) result machine.old machine.new
+    ensures step { IsStep (λ done. values found.now) result machine.old machine.new
         (typed_values.write_at (access_of code.entry.prog.now.types access) (shown at)
         (values found.now)) }
+    ensures spared { IfErr result (λ stop. stop ≡ OutOfMemory → ⊥) }
 {
     Ok(write_found(code, &mut machine.memory, access, at, found)?)
 }

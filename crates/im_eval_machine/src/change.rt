@@ -1,4 +1,4 @@
-ghost use Rattle.std.specs.Prelude.{ℕ};
+ghost use Rattle.std.specs.Prelude.{◌≡◌, ℕ, IfErr};
 ghost use Rattle.im_store.specs.Access.{at_place, read_cell, taken};
 ghost use Rattle.im_store.specs.Checks.{then_};
 ghost use Rattle.im_store.specs.Objects.{Store};
@@ -8,6 +8,7 @@ ghost use Rattle.im_eval_store.specs.Living.{Holds};
 ghost use Rattle.im_eval_store.specs.Shown.{Checks, shown};
 ghost use Rattle.im_eval_machine.specs.Shown.{IsLook, IsStep, one};
 ghost use Rattle.im_eval_machine.specs.Steps.{changes};
+ghost use Rattle.im_eval_machine.specs.declared.stopped.Stopped.TheVariants.{OutOfMemory};
 
 use crate::access::{read_scalar, write_scalar};
 use crate::machine::Machine;
@@ -20,8 +21,9 @@ use im_typed::Change;
 
 /// What stands at a place that is to change.
 pub fn before_change(machine: &Machine, change: Change, at: Value) -> Result<Value, Stopped>
-    ensures { IsLook shown result machine.now (typed_values.value_in
+    ensures look { IsLook shown result machine.now (typed_values.value_in
         (typed_values.read_at (Scalar (typed_values.changed_kind change)) (shown at))) }
+    ensures spared { IfErr result (λ stop. stop ≡ OutOfMemory → ⊥) }
 {
     Ok(taken_at(&machine.memory, changed_kind(change), at)?)
 }
@@ -43,8 +45,9 @@ pub fn change_by(
     before: Value,
     by: Number,
 ) -> Result<Value, Stopped>
-    ensures { IsStep one result machine.old machine.new
+    ensures step { IsStep one result machine.old machine.new
         (changes change (shown before) by.value (shown at)) }
+    ensures spared { IfErr result (λ stop. stop ≡ OutOfMemory → ⊥) }
 {
     let after = changed(&machine.memory, change, before, by)?;
     write_scalar(&mut machine.memory, changed_kind(change), at, after)?;

@@ -1,8 +1,9 @@
-ghost use Rattle.std.specs.Prelude.{pos};
+ghost use Rattle.std.specs.Prelude.{◌≡◌, pos, IfErr};
 ghost use Rattle.im_typed.specs.Runs.{give};
 ghost use Rattle.im_typed.specs.Values.{computes, update};
 ghost use Rattle.im_eval_store.specs.Shown.{shown};
 ghost use Rattle.im_eval_machine.specs.Shown.{IsStep, one};
+ghost use Rattle.im_eval_machine.specs.declared.stopped.Stopped.TheVariants.{OutOfMemory};
 ghost use Rattle.im_eval_steps.specs.Going.{changes_to};
 
 use im_eval_machine::{Machine, Stopped, before_change, change_by, number_of};
@@ -17,8 +18,9 @@ pub(crate) fn increment(
     old: bool,
     place: Value,
 ) -> Result<Value, Stopped>
-    ensures { IsStep one result machine.old machine.new
+    ensures step { IsStep one result machine.old machine.new
         (update computes change old (give (pos 1)) (shown place)) }
+    ensures spared { IfErr result (λ stop. stop ≡ OutOfMemory → ⊥) }
 {
     let before = before_change(machine, change, place)?;
     let after = change_by(machine, change, place, before, Number::ONE)?;
@@ -33,8 +35,9 @@ pub(crate) fn change_to(
     before: Value,
     value: Value,
 ) -> Result<Value, Stopped>
-    ensures { IsStep one result machine.old machine.new
+    ensures step { IsStep one result machine.old machine.new
         (changes_to change (shown before) (shown place) (shown value)) }
+    ensures spared { IfErr result (λ stop. stop ≡ OutOfMemory → ⊥) }
 {
     let by = number_of(value)?;
     change_by(machine, change, place, before, by)

@@ -1,10 +1,11 @@
-ghost use Rattle.std.specs.Prelude.{◌≡◌, ◌≤◌, ℕ, List, drop, map, IfOk};
+ghost use Rattle.std.specs.Prelude.{◌≡◌, ◌≤◌, ℕ, List, drop, map, IfErr, IfOk};
 ghost use Rattle.im_typed.specs.Meaning.{change_store, cleared, given_offsets};
 ghost use Rattle.im_typed.specs.Runs.{State, goes_on};
 ghost use Rattle.im_eval_machine.specs.Activations.{local_in};
 ghost use Rattle.im_eval_machine.specs.Settings.{AreLayoutsOf, setting_of};
 ghost use Rattle.im_eval_machine.specs.Shown.{IsIn, IsStep, nothing, values};
 ghost use Rattle.im_eval_machine.specs.declared.here.Here.{Here};
+ghost use Rattle.im_eval_machine.specs.declared.stopped.Stopped.TheVariants.{OutOfMemory};
 ghost use Rattle.im_eval_tasks.specs.Stack.{Flowed, in_activation, runs};
 ghost use Rattle.im_eval_tasks.specs.Tasks.{piece_in, takes_piece};
 ghost use Rattle.im_eval_tasks.specs.declared.steps.Now.TheVariants as now;
@@ -34,6 +35,7 @@ pub(crate) fn store_piece<'p>(
         left.entry.local left.entry.pieces.now.items
         (drop left.entry.next left.entry.pieces.now.items) (values found.now) s)
         (λ f. follows code.entry n here ts (Flowed f))) }
+    ensures spared { IfErr result (λ stop. stop ≡ OutOfMemory → ⊥) }
 {
     let Some(piece) = left.pieces.get(left.next) else {
         return Ok(Next::Just(Now::Pieces(left)));

@@ -1,9 +1,10 @@
-ghost use Rattle.std.specs.Prelude.{◌≡◌, ◌≤◌, ℕ, List};
+ghost use Rattle.std.specs.Prelude.{◌≡◌, ◌≤◌, ℕ, IfErr, List};
 ghost use Rattle.im_typed.specs.Runs.{State};
 ghost use Rattle.im_eval_store.specs.Shown.{shown};
 ghost use Rattle.im_eval_machine.specs.Settings.{AreLayoutsOf, setting_of};
 ghost use Rattle.im_eval_machine.specs.Shown.{IsIn};
 ghost use Rattle.im_eval_machine.specs.declared.here.Here.{Here};
+ghost use Rattle.im_eval_machine.specs.declared.stopped.Stopped.TheVariants.{OutOfMemory};
 ghost use Rattle.im_eval_tasks.specs.Stack.{place_goes};
 ghost use Rattle.im_eval_tasks.specs.declared.tasks.Task.{Task};
 ghost use Rattle.im_eval_tasks.specs.declared.tasks.Task.TheVariants as task;
@@ -68,10 +69,11 @@ pub fn resume_member<'p>(
     offset: u32,
     whole: Value,
 ) -> Result<Next<'p>, Stopped>
-    ensures { (n : ℕ) (here : Here) (ts : List Task) (s : State) → IsIn machine.now s
+    ensures goes { (n : ℕ) (here : Here) (ts : List Task) (s : State) → IsIn machine.now s
         → Goes code.entry n here ts result machine.now (place_goes (types_of code.entry)
         (setting_of code.entry) n here (task.Member offset) (follows code.entry n here ts)
         (shown whole) s) }
+    ensures spared { IfErr result (λ stop. stop ≡ OutOfMemory → ⊥) }
 {
     Ok(Next::Just(Now::At(member(machine, offset, whole)?)))
 }

@@ -1,8 +1,9 @@
-ghost use Rattle.std.specs.Prelude.{◌≡◌, ◌≤◌, ℕ, List};
+ghost use Rattle.std.specs.Prelude.{◌≡◌, ◌≤◌, ℕ, IfErr, List};
 ghost use Rattle.im_typed.specs.Runs.{State};
 ghost use Rattle.im_eval_machine.specs.Settings.{AreLayoutsOf, setting_of};
 ghost use Rattle.im_eval_machine.specs.Shown.{IsIn, values};
 ghost use Rattle.im_eval_machine.specs.declared.here.Here.{Here};
+ghost use Rattle.im_eval_machine.specs.declared.stopped.Stopped.TheVariants.{OutOfMemory};
 ghost use Rattle.im_eval_tasks.specs.Stack.{value_goes};
 ghost use Rattle.im_eval_tasks.specs.declared.tasks.Task.{Task};
 ghost use Rattle.im_eval_tasks.specs.declared.tasks.Task.TheVariants as task;
@@ -26,6 +27,7 @@ pub fn resume_use<'p>(
         → Goes code.entry n here ts result machine.new (value_goes (types_of code.entry)
         (setting_of code.entry) n here (task.Use usage.entry) (follows code.entry n here ts)
         (values found) s) }
+    ensures spared { IfErr result (λ stop. stop ≡ OutOfMemory → ⊥) }
 {
     match usage {
         Use::Drop => Ok(Next::Just(Now::Ended(Ended::Next))),

@@ -8,7 +8,7 @@ returns-in-Just-clause-goes c =
     let run = c.args.run.now in
     let ts = pending run.tasks.items in
     rw c.in-Just.is (λ n r e.
-    subst (Goes c.args.code n run.here ts c.hasten_now.result run.machine) (sym e.2) (c.hasten_now.ensures n ts e.0 e.1))
+    subst (Goes c.args.code n run.here ts c.hasten_now.result run.machine) (sym e.2) (c.hasten_now.ensures.goes n ts e.0 e.1))
 
 pub returns-in-Before-clause-goes : goal.returns-in-Before-clause-goes
 returns-in-Before-clause-goes c =

@@ -10,13 +10,13 @@ use Rattle.im_eval.proofs.at_once.pass_value.Goals as goal
 pub returns-in_err-value-clause-goes : goal.returns-in_err-value-clause-goes
 returns-in_err-value-clause-goes c =
     let p = err_from_is_err_and c.from_residual.result c.from_residual.ensures.1 in
-    rw (p.1, p.2) (λ n ts s i. c.in_err-value.ensures c.args.code n (c.args.task ∷ ts) s i)
+    rw (p.1, p.2) (λ n ts s i. c.in_err-value.ensures.ahead c.args.code n (c.args.task ∷ ts) s i)
 
 pub returns-in-Some-clause-goes : goal.returns-in-Some-clause-goes
 returns-in-Some-clause-goes c = λ n ts s i.
     let code = c.args.code in
     let here = c.args.here.now in
     let all = c.args.task ∷ ts in
-    let ahead = subst (λ v. LooksAhead valued code n here all (Ok v) c.args.machine.now s (runs (types_of code) (setting_of code) n here all (Evaluate c.args.expr) s)) c.in-Some.is (c.in_ok-value.ensures code n all s i) in
+    let ahead = subst (λ v. LooksAhead valued code n here all (Ok v) c.args.machine.now s (runs (types_of code) (setting_of code) n here all (Evaluate c.args.expr) s)) c.in-Some.is (c.in_ok-value.ensures.ahead code n all s i) in
     subst (Goes code n c.resume_value.new.here ts c.resume_value.result c.resume_value.new.machine) (sym ahead)
     (c.resume_value.ensures.goes n ts s i)

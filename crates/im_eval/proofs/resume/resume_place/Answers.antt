@@ -10,7 +10,7 @@ pub returns-in-At-clause-goes : goal.returns-in-At-clause-goes
 returns-in-At-clause-goes c = rw c.in-At.is (λ n ts s i. c.resume_at.ensures.goes n c.args.here.now ts s i)
 
 pub returns-in-Member-clause-goes : goal.returns-in-Member-clause-goes
-returns-in-Member-clause-goes c = rw c.in-Member.is (λ n ts s i. c.resume_member.ensures n c.args.here.now ts s i)
+returns-in-Member-clause-goes c = rw c.in-Member.is (λ n ts s i. c.resume_member.ensures.goes n c.args.here.now ts s i)
 
 pub returns-in-Leave-clause-goes : goal.returns-in-Leave-clause-goes
 returns-in-Leave-clause-goes c =

@@ -28,5 +28,5 @@ returns-clause-goes c =
     let code = c.args.code in
     let here = c.args.here.now in
     rw c.in-Operand.is (λ n ts s i.
-    subst (λ r. Goes code n here ts c.resume_operand.result c.resume_operand.new.machine (goes_on r (operand_goes (types_of code) (setting_of code) n here c.in-Operand.operand (follows code n here ts)))) (sym (c.in_ok-value-in-Operand.ensures s i))
+    subst (λ r. Goes code n here ts c.resume_operand.result c.resume_operand.new.machine (goes_on r (operand_goes (types_of code) (setting_of code) n here c.in-Operand.operand (follows code n here ts)))) (sym (c.in_ok-value-in-Operand.ensures.look s i))
     (c.resume_operand.ensures.goes n here ts s i))

@@ -8,8 +8,8 @@ use Rattle.im_eval_store.specs.Shown.{shown}
 use Rattle.im_eval_machine.proofs.Accessing.{change-bad, change-fine}
 use Rattle.im_eval_machine.proofs.change.change_by.Goals as goal
 
-pub returns-in_err-write_scalar : goal.returns-in_err-write_scalar
-returns-in_err-write_scalar c =
+pub returns-in_err-write_scalar-clause-step : goal.returns-in_err-write_scalar-clause-step
+returns-in_err-write_scalar-clause-step c =
     let p = err_from_is_err_and c.from_residual-in_err-write_scalar.result c.from_residual-in_err-write_scalar.ensures.1 in
     let at = shown c.args.at in
     let after = c.in_ok-after.after in
@@ -17,8 +17,8 @@ returns-in_err-write_scalar c =
     rw (p.1, p.2) (change-bad c.args.machine.now c.write_scalar.new.memory c.args.change (shown c.args.before) c.args.by.value at after c.in_ok-after.ensures why
     (λ last store h. subst (λ k. at_place at (λ q offset. write_cell store q offset k (shown after)) ≡ Bad why) c.changed_kind.ensures (c.in_err-write_scalar.ensures last store h)))
 
-pub returns : goal.returns
-returns c =
+pub returns-clause-step : goal.returns-clause-step
+returns-clause-step c =
     let at = shown c.args.at in
     let after = c.in_ok-after.after in
     change-fine c.args.machine.now c.write_scalar.new.memory c.args.change (shown c.args.before) c.args.by.value at after c.in_ok-after.ensures

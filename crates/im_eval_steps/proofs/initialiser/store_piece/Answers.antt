@@ -39,7 +39,7 @@ returns-in_err-used-clause-goes c =
     let inside : left.next < length all = subst (λ (xs : List Piece). left.next < length xs) c.deref.ensures.value c.in-Some.ensures.lookup.3.0 in
     let same : piece ≡ get_or all left.next piece = c.in-Some.ensures.lookup.1 ∙ ap (λ (xs : List Piece). get_or xs left.next piece) c.deref.ensures.value in
     rw (p.1, p.2) (λ n ts s i.
-    piece-unused c.args.code n c.args.here ts s left piece (values c.args.found.now) (dropped all left.next piece inside same) c.in_err-used.field-0.0 c.args.machine.now (c.in_err-used.ensures s i))
+    piece-unused c.args.code n c.args.here ts s left piece (values c.args.found.now) (dropped all left.next piece inside same) c.in_err-used.field-0.0 c.args.machine.now (c.in_err-used.ensures.look s i))
 
 pub returns-in_err-write_at-clause-goes : goal.returns-in_err-write_at-clause-goes
 returns-in_err-write_at-clause-goes c =
@@ -52,8 +52,8 @@ returns-in_err-write_at-clause-goes c =
     let inside : left.next < length all = subst (λ (xs : List Piece). left.next < length xs) c.deref.ensures.value c.in-Some.ensures.lookup.3.0 in
     let same : piece ≡ get_or all left.next piece = c.in-Some.ensures.lookup.1 ∙ ap (λ (xs : List Piece). get_or xs left.next piece) c.deref.ensures.value in
     rw (p.1, p.2) (λ n ts s i.
-    piece-stops c.args.code n c.args.here ts s left piece vs (dropped all left.next piece inside same) c.in_ok-used.field-0 (c.in_ok-used.ensures s i) why c.write_at.new.machine
-    (subst (λ (q : o.Object). Halts why c.write_at.new.machine (write_at (access_of (types_of c.args.code) piece.access) (o.Pointer q piece.offset) vs s)) c.local.ensures (c.in_err-write_at.ensures.ends s i)))
+    piece-stops c.args.code n c.args.here ts s left piece vs (dropped all left.next piece inside same) c.in_ok-used.field-0 (c.in_ok-used.ensures.look s i) why c.write_at.new.machine
+    (subst (λ (q : o.Object). Halts why c.write_at.new.machine (write_at (access_of (types_of c.args.code) piece.access) (o.Pointer q piece.offset) vs s)) c.local.ensures (c.in_err-write_at.ensures.step.ends s i)))
 
 pub returns-clause-goes : goal.returns-clause-goes
 returns-clause-goes c = λ n ts s i.
@@ -63,5 +63,5 @@ returns-clause-goes c = λ n ts s i.
     let vs = values c.args.found.now in
     let inside : left.next < length all = subst (λ (xs : List Piece). left.next < length xs) c.deref.ensures.value c.in-Some.ensures.lookup.3.0 in
     let same : piece ≡ get_or all left.next piece = c.in-Some.ensures.lookup.1 ∙ ap (λ (xs : List Piece). get_or xs left.next piece) c.deref.ensures.value in
-    piece-goes c.args.code n c.args.here ts s left piece vs (dropped all left.next piece inside same) c.in_ok-used.field-0 (c.in_ok-used.ensures s i) (tt {0}) c.write_at.new.machine
-    (subst (λ (q : o.Object). Ends (λ (done : Unit {0}). vs) (Ok tt) c.write_at.new.machine (write_at (access_of (types_of c.args.code) piece.access) (o.Pointer q piece.offset) vs s)) c.local.ensures (c.in_ok-write_at.ensures.ends s i))
+    piece-goes c.args.code n c.args.here ts s left piece vs (dropped all left.next piece inside same) c.in_ok-used.field-0 (c.in_ok-used.ensures.look s i) (tt {0}) c.write_at.new.machine
+    (subst (λ (q : o.Object). Ends (λ (done : Unit {0}). vs) (Ok tt) c.write_at.new.machine (write_at (access_of (types_of c.args.code) piece.access) (o.Pointer q piece.offset) vs s)) c.local.ensures (c.in_ok-write_at.ensures.step.ends s i))

@@ -33,7 +33,7 @@ returns-in_ok-after-in-Change-clause-goes c =
     let w = c.in-Change in
     let after = c.in_ok-after-in-Change.after in
     rw w.is (λ n here ts s i.
-    went c.args.code n here ts one after (Just (Value (One after))) c.change_to.new.machine (changes_to w.change (shown w.before) (shown w.place) (shown c.args.value) s) (λ vs. follows c.args.code n here ts (Valued vs)) (c.in_ok-after-in-Change.ensures.ends s i) (λ t. refl))
+    went c.args.code n here ts one after (Just (Value (One after))) c.change_to.new.machine (changes_to w.change (shown w.before) (shown w.place) (shown c.args.value) s) (λ vs. follows c.args.code n here ts (Valued vs)) (c.in_ok-after-in-Change.ensures.step.ends s i) (λ t. refl))
 
 pub returns-then-holds-clause-goes : goal.returns-then-holds-clause-goes
 returns-then-holds-clause-goes c =

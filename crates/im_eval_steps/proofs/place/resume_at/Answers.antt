@@ -77,7 +77,7 @@ returns-in_err-before-in-Update-clause-goes c =
     let at = shown c.args.place in
     rw (p.1, p.2, c.in-Update.is) (λ n here ts s i.
     halts-on c.in_err-before-in-Update.field-0.0 c.args.machine.now _ (λ vs. follows code n here ts (Valued vs))
-    (unfound shown c.in_err-before-in-Update.field-0.0 c.args.machine.now s (value_in (read_at (Scalar (changed_kind by)) at) s) _ (c.in_err-before-in-Update.ensures s i)))
+    (unfound shown c.in_err-before-in-Update.field-0.0 c.args.machine.now s (value_in (read_at (Scalar (changed_kind by)) at) s) _ (c.in_err-before-in-Update.ensures.look s i)))
 
 pub returns-in_ok-before-in-Update-clause-goes : goal.returns-in_ok-before-in-Update-clause-goes
 returns-in_ok-before-in-Update-clause-goes c =
@@ -91,7 +91,7 @@ returns-in_ok-before-in-Update-clause-goes c =
       amount-comes (value_in (read_at (Scalar (changed_kind by)) at) s) before s
           (value_of (in_activation (types_of code) (setting_of code) n here) (operand_in (types_of code) c.in-Update.by))
           (λ (b : o.Value) (z : ℤ). changed computes by b z >>= (λ w. write_at (Scalar (changed_kind by)) at (w ∷ []) >>= (λ _. scalar w)))
-          (λ vs. follows code n here ts (Valued vs)) (c.in_ok-before-in-Update.ensures s i),
+          (λ vs. follows code n here ts (Valued vs)) (c.in_ok-before-in-Update.ensures.look s i),
     ))
 
 pub returns-in_err-value-in-Increment-clause-goes : goal.returns-in_err-value-in-Increment-clause-goes
@@ -100,7 +100,7 @@ returns-in_err-value-in-Increment-clause-goes c =
     let code = c.args.code in
     let w = c.in-Increment in
     rw (p.1, p.2, w.is) (λ n here ts s i.
-    halts-on c.in_err-value-in-Increment.field-0.0 c.increment.new.machine (update computes w.change w.old (give (pos 1)) (shown c.args.place) s) (λ vs. follows code n here ts (Valued vs)) (c.in_err-value-in-Increment.ensures.ends s i))
+    halts-on c.in_err-value-in-Increment.field-0.0 c.increment.new.machine (update computes w.change w.old (give (pos 1)) (shown c.args.place) s) (λ vs. follows code n here ts (Valued vs)) (c.in_err-value-in-Increment.ensures.step.ends s i))
 
 pub returns-in_ok-value-in-Increment-clause-goes : goal.returns-in_ok-value-in-Increment-clause-goes
 returns-in_ok-value-in-Increment-clause-goes c =
@@ -108,4 +108,4 @@ returns-in_ok-value-in-Increment-clause-goes c =
     let w = c.in-Increment in
     let value = c.in_ok-value-in-Increment.value in
     rw w.is (λ n here ts s i.
-    went code n here ts one value (Just (Value (One value))) c.increment.new.machine (update computes w.change w.old (give (pos 1)) (shown c.args.place) s) (λ vs. follows code n here ts (Valued vs)) (c.in_ok-value-in-Increment.ensures.ends s i) (λ t. refl))
+    went code n here ts one value (Just (Value (One value))) c.increment.new.machine (update computes w.change w.old (give (pos 1)) (shown c.args.place) s) (λ vs. follows code n here ts (Valued vs)) (c.in_ok-value-in-Increment.ensures.step.ends s i) (λ t. refl))

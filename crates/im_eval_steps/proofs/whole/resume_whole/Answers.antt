@@ -25,7 +25,7 @@ returns-in_err-used-in-Store-clause-goes c =
     let vs = values c.args.found in
     rw (p.1, p.2, c.in-Store.is) (λ n here ts s i.
     halts-on c.in_err-used-in-Store.field-0.0 c.args.machine.now _ (λ ws. follows code n here ts (Valued ws))
-    (unfound shown c.in_err-used-in-Store.field-0.0 c.args.machine.now s (used vs s) (λ _. write_at (access_of (types_of code) c.in-Store.access) (shown c.in-Store.place) vs) (c.in_err-used-in-Store.ensures s i)))
+    (unfound shown c.in_err-used-in-Store.field-0.0 c.args.machine.now s (used vs s) (λ _. write_at (access_of (types_of code) c.in-Store.access) (shown c.in-Store.place) vs) (c.in_err-used-in-Store.ensures.look s i)))
 
 pub returns-in_err-write_at-in-Store-clause-goes : goal.returns-in_err-write_at-in-Store-clause-goes
 returns-in_err-write_at-in-Store-clause-goes c =
@@ -34,7 +34,7 @@ returns-in_err-write_at-in-Store-clause-goes c =
     let vs = values c.args.found in
     rw (p.1, p.2, c.in-Store.is) (λ n here ts s i.
     then-stops vs c.in_ok-used-in-Store.field-0 s (write_at (access_of (types_of code) c.in-Store.access) (shown c.in-Store.place) vs) (λ ws. follows code n here ts (Valued ws))
-    c.in_err-write_at-in-Store.field-0.0 c.write_at.new.machine (c.in_ok-used-in-Store.ensures s i) (c.in_err-write_at-in-Store.ensures.ends s i))
+    c.in_err-write_at-in-Store.field-0.0 c.write_at.new.machine (c.in_ok-used-in-Store.ensures.look s i) (c.in_err-write_at-in-Store.ensures.step.ends s i))
 
 pub returns-clause-goes : goal.returns-clause-goes
 returns-clause-goes c =
@@ -42,7 +42,7 @@ returns-clause-goes c =
     let vs = values c.args.found in
     rw c.in-Store.is (λ n here ts s i.
     then-goes code n here ts vs c.in_ok-used-in-Store.field-0 s (write_at (access_of (types_of code) c.in-Store.access) (shown c.in-Store.place) vs) (λ ws. follows code n here ts (Valued ws))
-    vs (Just (Value c.args.found)) c.write_at.new.machine (c.in_ok-used-in-Store.ensures s i) (c.in_ok-write_at-in-Store.ensures.ends s i) (λ t. refl))
+    vs (Just (Value c.args.found)) c.write_at.new.machine (c.in_ok-used-in-Store.ensures.look s i) (c.in_ok-write_at-in-Store.ensures.step.ends s i) (λ t. refl))
 
 pub returns-in-Comma-clause-goes : goal.returns-in-Comma-clause-goes
 returns-in-Comma-clause-goes c = rw (c.deref.ensures, c.in-Comma.is) (λ n here ts s i. (s, i, refl))
