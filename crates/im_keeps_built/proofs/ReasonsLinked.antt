@@ -59,7 +59,7 @@ stores_there w (x ∷ xs) (suc n) (inr s) = let r = stores_there w xs n s in let
 abbrev Backs : List RustLine → ℕ → Option Instruction → Type 0
 Backs whole k mark = (test : Option Instruction → Bool) → test None ≡ false → test mark ≡ true → (j : ℕ) × (k ≡ suc j) × AtLine whole j (λ x. test (Some (line_of x.instr)) ≡ true)
 
-abbrev Aheads : List RustLine → ℕ → List RustLine → Type 0
+abbrev pub Aheads : List RustLine → ℕ → List RustLine → Type 0
 Aheads whole n xs = (j : ℕ) (x : RustLine) → slice_get xs j ≡ Some x → slice_get whole (n + j) ≡ Some x
 
 reason_shown : (Reads : ℕ → Type 0) (whole rest : List RustLine) (k : ℕ) (mark : Option Instruction) → Backs whole k mark → Aheads whole (suc k) rest → (cause : Cause) → CodeReason Reads mark (code_lines rest) cause → Shown Reads whole k cause
@@ -94,7 +94,7 @@ shown_from Reads Writes whole (x ∷ xs) n mark back ahead f (suc k) m line caus
     f.2 k m line cause (omega arith) e c
 
 pub shown_at : (Reads Writes : ℕ → Type 0) (lines : List RustLine) → FitLines Reads Writes None (code_lines lines) → (k : ℕ) (line : RustLine) (cause : Cause) → slice_get lines k ≡ Some line → line.cause ≡ Some cause → Shown Reads lines k cause
-shown_at Reads Writes lines f k line cause e c = shown_from Reads Writes lines lines 0 None (λ test no yes. absurd cc) (λ j x g. g) f k k line cause (omega arith) e c
+shown_at Reads Writes lines f k line cause e c = shown_from Reads Writes lines lines 0 None (λ test no yes. absurd cc) (λ j x g. subst (λ z. slice_get lines z ≡ Some x) (let s : j ≡ 0 + j = omega arith in s) g) f k k line cause (omega arith) e c
 
 pub sorted_at : (Reads Writes : ℕ → Type 0) (xs : List RustLine) (mark : Option Instruction) → FitLines Reads Writes mark (code_lines xs) → (j : ℕ) (x : RustLine) (a : ℕ) → slice_get xs j ≡ Some x → x.access ≡ Some a → SortedAt Reads Writes x.instr.op (Some a)
 sorted_at Reads Writes [] mark f j x a e is = absurd cc
@@ -160,7 +160,7 @@ module _ (parts : List Part) (words : List ℕ) (are : AreWordsOf (lines_of part
   jumps_word k t =
       subst (λ n. links 0 (instruction_at words n) ≡ true) (let s : first + suc k ≡ suc (first + k) = omega arith in s) (links_word 0 (suc k) t.0 t.1 ∙ t.2)
 
-  module _ (Reads Writes : ℕ → Type 0) (sorted : (j : ℕ) (x : RustLine) (a : ℕ) → slice_get lines j ≡ Some x → x.access ≡ Some a → SortedAt Reads Writes x.instr.op (Some a)) (apart : (a : ℕ) → Reads a → Writes a → ⊥) (one : (i j a : ℕ) (x y : RustLine) → slice_get lines i ≡ Some x → x.access ≡ Some a → slice_get lines j ≡ Some y → y.access ≡ Some a → i ≡ j) where
+  module _ (Reads Writes : ℕ → Type 0) (sorted : (r : ℕ) → Reads r → (j : ℕ) (x : RustLine) (a : ℕ) → slice_get lines j ≡ Some x → x.access ≡ Some a → SortedAt Reads Writes x.instr.op (Some a)) (apart : (a : ℕ) → Reads a → Writes a → ⊥) (one : (r : ℕ) → Reads r → (i j a : ℕ) (x y : RustLine) → slice_get lines i ≡ Some x → x.access ≡ Some a → slice_get lines j ≡ Some y → y.access ≡ Some a → i ≡ j) where
     loads : (op : Op) (a : ℕ) → Reads a → SortedAt Reads Writes op (Some a) → is_load op ≡ true
     loads op a r (inl s) = s.1
     loads op a r (inr s) = absurd (apart a r s.0)
@@ -185,8 +185,8 @@ module _ (parts : List Part) (words : List ℕ) (are : AreWordsOf (lines_of part
         let more_than = at.1 in
         let most = at.2 in
         let x = at.3.0 in
-        let same : at.0 ≡ q.write_at = one at.0 q.write_at write x w.line at.3.1 at.3.2.0 w.is_line w.access in
-        let load : is_load r.line.instr.op ≡ true = loads r.line.instr.op read s.0 (sorted q.read_at r.line read r.is_line r.access) in
+        let same : at.0 ≡ q.write_at = one read s.0 at.0 q.write_at write x w.line at.3.1 at.3.2.0 w.is_line w.access in
+        let load : is_load r.line.instr.op ≡ true = loads r.line.instr.op read s.0 (sorted read s.0 q.read_at r.line read r.is_line r.access) in
         let reads = op_word is_load q.read_at r.line r.is_line ∙ load in
         let writes = op_word is_store at.0 x at.3.1 ∙ at.3.2.1 in
         subst (IsCaused words (first + k)) (sym q.is)
