@@ -9,13 +9,13 @@ use Rattle.im_rv.specs.Lines.{CodeLine}
 use Rattle.im_rv_reach.specs.Instructions.{storing}
 use Rattle.im_store.specs.Objects.{Name}
 use Rattle.im_block.specs.declared.code.Line.{Line}
-use Rattle.im_block.specs.declared.code.Line.TheVariants.{Put, PutNull, Copy, Convert, Unary, Not, Compute, Compare, Move, Distance, Address, Read, Write, Reload, Spill, Cut, Call, Serve}
+use Rattle.im_block.specs.declared.code.Line.TheVariants.{Read, Write, Reload, Spill, Cut}
 use Rattle.im_block.specs.declared.code.Exit.{Exit}
 use Rattle.im_block.specs.declared.code.Block.{Block}
 use Rattle.im_select.specs.Leads.{led, kept}
 use Rattle.im_select.specs.declared.branching.Test.{Test}
 use Rattle.im_select.specs.declared.distance.Distance.{Distance as Reach}
-use Rattle.im_select.specs.Emitted.{adds_code, lines_code, behind_each, taken_test, own_lines, exit_code, is_empty, block_code, Laying, leads_of, next_label, found_code, laid_block, laid_code, others_below, kept_order, blocks_code, enter_code, prologue_code, function_code, labelled, entry_label}
+use Rattle.im_select.specs.Emitted.{adds_code, lines_code, behind_each, taken_test, own_lines, exit_code, is_empty, block_code, Laying, leads_of, next_label, found_code, laid_block, laid_code, others_below, blocks_code, enter_code, prologue_code, function_code, labelled, entry_label}
 use Rattle.im_select.proofs.Plain.{adds_bare}
 use Rattle.im_select.proofs.Taking.{IsTaken, Nothing, Comparing, Zeroing, zero_line, takes}
 use Rattle.im_keeps_built.specs.Cuts.{keeps_return}

@@ -1,5 +1,5 @@
 -- The cuts of each part of a program have their reasons.
-use Rattle.std.proofs.Common.{◌≡◌, ◌⊎◌, inl, inr, ℕ, zero, suc, ◌+◌, ◌<◌, ◌≤◌, Bool, true, false, List, [], ◌∷◌, Option, Some, None, map, length, refl, sym, ap, ◌∙◌, subst, arith}
+use Rattle.std.proofs.Common.{◌≡◌, ◌⊎◌, inl, inr, ℕ, zero, suc, ◌+◌, Bool, true, false, List, [], ◌∷◌, Option, Some, None, map, length, refl, sym, ap, ◌∙◌, subst, arith}
 use Rattle.std.specs.Prelude.{◌&&◌, ◌||◌, slice_get}
 use Rattle.std.proofs.lemmas.Option.{slice_get_cases, slice_get_within}
 use Rattle.im_num.specs.declared.values.Cause.{Cause}
@@ -13,20 +13,20 @@ use Rattle.im_link.specs.Links.{AreWordsOf}
 use Rattle.im_link.specs.Cuts.{IsCutOf, IsCutIn}
 use Rattle.im_ckpt.specs.Recovery.{recovery}
 use Rattle.im_ckpt.specs.Checkpoint.{checkpoint_code}
-use Rattle.im_rtlib.specs.Routines.{getchar, putchar, stack, exit}
+use Rattle.im_rtlib.specs.Routines.{getchar, putchar, stack}
 use Rattle.im_block.specs.declared.code.Block.{Block}
 use Rattle.im_block.specs.declared.unit.Function.{Function}
 use Rattle.im_block.specs.declared.unit.Unit.{Unit as Code}
 use Rattle.im_block.specs.Wellformed.{accesses_of_functions, IsWellFormed}
 use Rattle.im_frame.specs.declared.layout.Layout.{Layout}
-use Rattle.im_select.specs.Emitted.{Laying, function_code}
+use Rattle.im_select.specs.Emitted.{Laying}
 use Rattle.im_select.specs.Selects.{accesses_in, laying_of}
 use Rattle.im_link_laws.specs.Program.{HasCode, part_of, given_at, start_code, IsProgram}
 use Rattle.im_saved_code.proofs.Scanning.{both}
 use Rattle.im_keeps_built.specs.Cuts.{is_store, IsCaused}
 use Rattle.im_keeps_built.proofs.Numbers.{In, Distinct, reads_of_blocks, writes_of_blocks, reads_in, writes_in, distinct, blocks_once, function_distinct, laid_distinct}
 use Rattle.im_keeps_built.proofs.Reasons.{ReasonedFunction, reasoned_at}
-use Rattle.im_keeps_built.proofs.ReasonsSelected.{SortedAt, FitLines}
+use Rattle.im_keeps_built.proofs.ReasonsSelected.{FitLines}
 use Rattle.im_keeps_built.proofs.ReasonsLaid.{are_numbered, function_fits}
 use Rattle.im_keeps_built.proofs.ReasonsLinked.{AtLine, Stores, Shown, Aheads, shown_at, sorted_at, one_access, caused_at}
 use Rattle.im_keeps_built.proofs.Marked.{code_is}
@@ -41,7 +41,6 @@ length_test one two (Some cause) = false
 abbrev lengths_test : Bool → Bool → List CodeLine → Bool
 lengths_test one two [] = true
 lengths_test one two (x ∷ xs) = length_test one two x.cause && lengths_test (is_store x.line.op) one xs
-
 
 or_true : (a b : Bool) → (a || b) ≡ true → (a ≡ true) ⊎ (b ≡ true)
 or_true true b e = inl refl

@@ -1,8 +1,7 @@
 -- What the passes make of a program has its cuts where they are due.
-use Rattle.std.proofs.Common.{◌≡◌, ℕ, zero, suc, List, [], ◌∷◌, Option, Some, None, refl, subst}
+use Rattle.std.proofs.Common.{◌≡◌, ℕ, zero, suc, List, [], ◌∷◌, Option, Some, refl, subst}
 use Rattle.std.specs.Prelude.{slice_get}
 use Rattle.im_block.specs.declared.access.Tags.{Tags}
-use Rattle.im_block.specs.declared.code.Block.{Block}
 use Rattle.im_block.specs.declared.unit.Function.{Function}
 use Rattle.im_block.specs.declared.unit.Unit.{Unit as Code}
 use Rattle.im_alloc_laws.specs.Laws.{PlacedCodeLaw}

@@ -12,7 +12,7 @@ use Rattle.im_block.specs.declared.code.Exit.TheVariants.{Jump, Turn, Branch, Re
 use Rattle.im_block.specs.declared.code.Block.{Block}
 use Rattle.im_block.specs.declared.unit.Function.{Function}
 use Rattle.im_block.specs.Paths.{IsCut}
-use Rattle.im_alloc_relation.specs.Homes.{Home, InRegister, InSlot, numbers_kept, load, reg, save, into, give, bring, load_place, on_place, put_line, loop_cut, past_cut, behind, needed, put_lines, bring_result, exit_lines, put_exit}
+use Rattle.im_alloc_relation.specs.Homes.{Home, InRegister, InSlot, numbers_kept, load, reg, save, into, give, bring, load_place, on_place, put_line, loop_cut, past_cut, needed, put_lines, bring_result, exit_lines, put_exit}
 use Rattle.im_alloc_relation.specs.Placing.{PlacedBlocks, PlacedFunction}
 use Rattle.im_keeps_built.proofs.Reasons.{Before, Begins, Called, Anything, behind_line, IsTurn, EndsLoop, no_reads, Reason, Fits, Reasoned, begins_at, ReasonedBlocks, ReasonedFunction, anywhere}
 

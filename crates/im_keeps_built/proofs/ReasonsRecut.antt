@@ -1,12 +1,11 @@
 -- Gap cuts and greedy cuts have their reasons, and leave those of the cuts before them.
-use Rattle.std.proofs.Common.{◌≡◌, ◌⊎◌, inl, inr, ℕ, zero, suc, ◌+◌, ◌<◌, ◌≤◌, List, [], ◌∷◌, ◌++◌, Option, Some, None, refl, sym, ap, ◌∙◌, subst, ⊎_elim, append_assoc, arith}
+use Rattle.std.proofs.Common.{◌≡◌, ◌⊎◌, inl, inr, ℕ, suc, List, [], ◌∷◌, ◌++◌, Option, Some, None, refl, sym, ap, ◌∙◌, subst, ⊎_elim, append_assoc, arith}
 use Rattle.std.specs.Prelude.{slice_get}
 use Rattle.im_num.specs.declared.values.Cause.{Cause}
-use Rattle.im_num.specs.declared.values.Cause.TheVariants.{Gap}
 use Rattle.im_block.specs.declared.access.Tags.{Tags}
 use Rattle.im_block.specs.declared.access.Dep.{Dep}
 use Rattle.im_block.specs.declared.code.Line.{Line}
-use Rattle.im_block.specs.declared.code.Line.TheVariants.{Put, PutNull, Copy, Convert, Unary, Not, Compute, Compare, Move, Distance, Address, Read, Write, Reload, Spill, Cut, Call, Serve}
+use Rattle.im_block.specs.declared.code.Line.TheVariants.{Read, Write, Reload, Spill, Cut}
 use Rattle.im_block.specs.declared.code.Exit.{Exit}
 use Rattle.im_block.specs.declared.code.Block.{Block}
 use Rattle.im_block.specs.declared.unit.Function.{Function}
@@ -14,12 +13,12 @@ use Rattle.im_block.specs.Meaning.{Site, site_of, slot_site, Spot}
 use Rattle.im_block.specs.Forced.{StartsWithCut}
 use Rattle.im_block.specs.Paths.{Step, ReadStep, WriteStep, steps_of, IsCut, Open, spot, Path, Here, Along, Across, IsEntry}
 use Rattle.im_alloc_placed.specs.Apart.{CutsApart}
-use Rattle.im_cut.specs.Greedy.{cause_of, causes_of_blocks, BehindCut, Starts, IsDue, CutLines, Empty, Same, Added, CutBlocks, CutsTo}
+use Rattle.im_cut.specs.Greedy.{cause_of, causes_of_blocks, BehindCut, Starts, IsDue, CutLines, Empty, Same, Added, CutBlocks}
 use Rattle.im_cut_gap.specs.Gaps as gaps
 use Rattle.im_cut_gap.specs.Gaps.{GapLines, GapBlocks, GapCutsTo}
 use Rattle.im_cut_gap.specs.Laws.{GapApartLaw}
 use Rattle.im_recut.specs.Recut.{IsGapLimit, cost_limit, GapsTo, RecutsFunction}
-use Rattle.im_keeps_built.proofs.Reasons.{Before, Begins, Anything, behind_line, EndsLoop, IsWrite, no_reads, Fits, Reasoned, begins_at, ReasonedBlocks, ReasonedFunction, line_moved, loosened}
+use Rattle.im_keeps_built.proofs.Reasons.{Before, Anything, behind_line, EndsLoop, IsWrite, no_reads, Fits, Reasoned, begins_at, ReasonedBlocks, ReasonedFunction, line_moved, loosened}
 use Rattle.im_keeps_built.proofs.Numbers.{In, in_left, in_right, reads_of_line, reads_of_lines, reads_of_blocks, reads_in}
 
 -- ---- gap cuts, none of them beside another cut

@@ -1,17 +1,17 @@
 -- Selected lines of cuts have their reasons around them.
-use Rattle.std.proofs.Common.{◌≡◌, ◌⊎◌, inl, inr, ℕ, zero, suc, ◌+◌, ◌-◌, ◌^◌, ◌<◌, Bool, true, false, List, [], ◌∷◌, ◌++◌, Option, Some, None, length, refl, sym, ap, ◌∙◌, subst, append_assoc, arith}
-use Rattle.std.specs.Prelude.{not, ◌&&◌, ◌==◌, if◌then◌else◌, slice_get}
+use Rattle.std.proofs.Common.{◌≡◌, ◌⊎◌, inl, inr, ℕ, zero, suc, ◌+◌, Bool, true, false, List, [], ◌∷◌, ◌++◌, Option, Some, None, refl, sym, ap, subst, append_assoc}
+use Rattle.std.specs.Prelude.{not, ◌&&◌, ◌==◌, if◌then◌else◌}
 use Rattle.im_num.specs.declared.kind.Kind.{Kind}
 use Rattle.im_num.specs.declared.kind.Kind.TheVariants.{I8, U8, I16, U16, I32, U32, Ptr}
 use Rattle.im_num.specs.declared.values.Cause.{Cause}
 use Rattle.im_num.specs.declared.values.Cause.TheVariants.{Entry, Return as Back, Loop, Length, Gap, Dep}
 use Rattle.im_num.specs.Kinds.{word}
 use Rattle.im_rv.specs.declared.instr.Op.{Op}
-use Rattle.im_rv.specs.declared.instr.Op.TheVariants.{Lw, Sw, Sltiu}
+use Rattle.im_rv.specs.declared.instr.Op.TheVariants.{Sw}
 use Rattle.im_rv.specs.Decode.{Line as Instruction}
-use Rattle.im_rv.specs.Lines.{CodeLine, plain_line}
-use Rattle.im_rv_reach.specs.Instructions.{with_immediate, storing, jumping}
-use Rattle.im_gap.specs.Flow.{links, links_by}
+use Rattle.im_rv.specs.Lines.{CodeLine}
+use Rattle.im_rv_reach.specs.Instructions.{storing, jumping}
+use Rattle.im_gap.specs.Flow.{links}
 use Rattle.im_rtlib.specs.Routines.{numbered}
 use Rattle.im_store.specs.declared.operators.UnaryOp.TheVariants.{Negate, Complement}
 use Rattle.im_store.specs.declared.operators.Comparison.TheVariants.{Less, Greater, LessOrEqual, GreaterOrEqual, Equal, NotEqual}
@@ -23,14 +23,13 @@ use Rattle.im_block.specs.declared.code.Line.{Line}
 use Rattle.im_block.specs.declared.code.Line.TheVariants.{Put, PutNull, Copy, Convert, Unary, Not, Compute, Compare, Move, Distance, Address, Read, Write, Reload, Spill, Cut, Call, Serve}
 use Rattle.im_block.specs.declared.code.Exit.{Exit}
 use Rattle.im_block.specs.declared.code.Exit.TheVariants.{Jump, Turn, Branch, Return}
-use Rattle.im_block.specs.declared.code.Block.{Block}
 use Rattle.im_alloc_placed.specs.Apart.{IsNoCut}
 use Rattle.im_select.specs.Leads.{led}
 use Rattle.im_select.specs.declared.branching.Test.{Test}
 use Rattle.im_select.specs.declared.distance.Distance.{Distance as Reach}
 use Rattle.im_select.specs.declared.distance.Distance.TheVariants.{Near, Far}
 use Rattle.im_select.specs.declared.folding.Constant.{Constant}
-use Rattle.im_select.specs.Emitted.{high_of, low_of, constant_code, displaced_by, displaced_code, displaced_base, adds_code, place_number, place_base, place_code, copied_code, converted_code, unary_code, scaled_code, address_code, computed_code, constant_line, comparison_line, compared_code, comparison_rest, passed_by, by_or, stored_from, way_code, line_code, lines_code, onward_code, test_code, test_or, is_next, branch_code, exit_code, result_code, leave_code, labelled}
+use Rattle.im_select.specs.Emitted.{high_of, low_of, constant_code, displaced_by, displaced_code, displaced_base, adds_code, place_number, place_base, place_code, copied_code, scaled_code, address_code, computed_code, constant_line, comparison_line, compared_code, comparison_rest, passed_by, by_or, stored_from, way_code, line_code, lines_code, onward_code, test_code, test_or, is_next, branch_code, exit_code, result_code, leave_code, labelled}
 use Rattle.im_select.proofs.Plain.{Bare, weighed_bare, constant_bare, displaced_bare, adds_bare, place_bare, copied_bare, scaled_bare, address_bare}
 use Rattle.im_keeps_built.specs.Cuts.{is_load, is_store, keeps_return}
 use Rattle.im_keeps_built.proofs.Reasons.{Before, Begins, Called, Anything, behind_line, IsTurn, EndsLoop, IsWrite, WritesNext, Reason, Fits, Reasoned}
