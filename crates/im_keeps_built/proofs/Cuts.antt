@@ -31,7 +31,7 @@ use Rattle.im_force.specs.Laws.{ForceKeepsLaw}
 use Rattle.im_forward.specs.RegistersLaws.{RegistersLaw}
 use Rattle.im_compile.specs.Passed.{IsSource, ReadyLaw}
 use Rattle.im_compile.specs.Built.{IsBuilt, function_names}
-use Rattle.im_keeps_built.specs.Cuts.{IsCutWord, part_names, IsCaused, AreCuts}
+use Rattle.im_keeps_built.specs.Cuts.{IsCutWord, part_names, IsCaused, AreCuts, AreGapsAsked}
 use Rattle.im_keeps_built.proofs.Marked.{line_is_marked}
 use Rattle.im_keeps_built.proofs.ReasonsParts.{told_caused}
 use Rattle.im_keeps_built.proofs.ReasonsPassed.{passed_reasons}
@@ -82,8 +82,16 @@ cuts_of registers force placing gaps ready prog options built source b =
           let i = cs.each c cut e in
           let here = i.is_cut.at in
           let same : first_of b.parts i.p + i.k ≡ k = omega arith in
-          subst (λ n. IsCaused b.linked.words.items n cut.cause) same (told_caused b.code b.addresses b.layouts b.parts b.assemble b.linked.words.items b.link.words well reasons cut i);
+          subst (λ n. IsCaused b.linked.words.items n cut.cause) same (told_caused (options.max_gap ≡ None → ⊥) b.code b.addresses b.layouts b.parts b.assemble b.linked.words.items b.link.words well reasons cut i).0;
       named = λ c cut e.
           let i = cs.each c cut e in
           (i.p, ap (λ (l : List (List ℕ)). slice_get l i.p) names ∙ slice_get-map {A = Part} (λ (q : Part). string_bytes q.name) b.parts i.p ∙ ap (option_map (λ (q : Part). string_bytes q.name)) i.is_part ∙ ap (λ (n : List ℕ). Some n) (sym i.is_cut.function));
     }))
+
+-- a gap cut is told only where a longest gap was asked for
+pub asked_of : RegistersLaw → ForceKeepsLaw → PlacedCodeLaw → GapApartLaw → ReadyLaw → (prog : Prog) (options : Options) (built : Built) → IsSource prog → IsBuilt prog options built → AreGapsAsked options.max_gap built.cuts.items
+asked_of registers force placing gaps ready prog options built source b none c cut e g =
+    let well = (ready prog options.max_gap b.code source b.passed).well_formed in
+    let reasons = passed_reasons registers force placing gaps prog options.max_gap b.code b.passed in
+    let there : slice_get b.linked.cuts.items c ≡ Some cut = subst (λ (v : Vec Cut Global). slice_get v.items c ≡ Some cut) b.cuts e in
+    (told_caused (options.max_gap ≡ None → ⊥) b.code b.addresses b.layouts b.parts b.assemble b.linked.words.items b.link.words well reasons cut (b.link.cuts.each c cut there)).1 g none

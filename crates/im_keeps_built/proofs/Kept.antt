@@ -14,7 +14,7 @@ use Rattle.im_compile.specs.Passed.{ReadyLaw}
 use Rattle.im_compile.specs.Built.{bytes_of}
 use Rattle.im_keeps_built.specs.Laws.{BuiltSelectsLaw, BuiltKeepsLaw}
 use Rattle.im_keeps_built.proofs.Chained.{gap_of, chain}
-use Rattle.im_keeps_built.proofs.Cuts.{cuts_of}
+use Rattle.im_keeps_built.proofs.Cuts.{cuts_of, asked_of}
 
 pub kept : BuiltSelectsLaw → LowersLaw → MiddleLaw → ProgramKeepsLaw → GapBoundLaw → RegistersLaw → ForceKeepsLaw → PlacedCodeLaw → GapApartLaw → ReadyLaw → BuiltKeepsLaw
 kept selects lowers middle keeps bound registers force placing gaps ready prog options built source b =
@@ -26,5 +26,6 @@ kept selects lowers middle keeps bound registers force placing gaps ready prog o
           (keeps (program_of prog) (bytes_of b.layouts) built.image built.gap source.typed passes);
       gap = bound built.image.words built.image.entry built.gap (gap_of prog options built b);
       measure = gap_of prog options built b;
+      asked = asked_of registers force placing gaps ready prog options built source b;
       cuts = cuts_of registers force placing gaps ready prog options built source b;
     }

@@ -35,13 +35,13 @@ abbrev pub Stores : RustLine → Type 0
 Stores x = is_store x.instr.op ≡ true
 
 -- the lines of a part show the cause of the cut that is line k
-abbrev pub Shown : (ℕ → Type 0) → List RustLine → ℕ → Cause → Type 0
-Shown Reads lines k Entry = (j : ℕ) × (k ≡ suc j) × AtLine lines j Keeps
-Shown Reads lines k Back = ((j : ℕ) × (k ≡ suc j) × AtLine lines j (Links 1)) ⊎ AtLine lines (suc k) (Links 0)
-Shown Reads lines k Loop = AtLine lines (suc k) (Links 0)
-Shown Reads lines k Length = (j : ℕ) × ((k ≡ suc j) ⊎ (k ≡ suc (suc j))) × AtLine lines j Stores
-Shown Reads lines k Gap = Unit {0}
-Shown Reads lines k (Dep read write) = Reads read × ((j : ℕ) × (k < j) × (j ≤ k + 3) × AtLine lines j (λ x. (x.access ≡ Some write) × Stores x))
+abbrev pub Shown : (Option ℕ → Type 0) → List RustLine → ℕ → Cause → Type 0
+Shown Known lines k Entry = (j : ℕ) × (k ≡ suc j) × AtLine lines j Keeps
+Shown Known lines k Back = ((j : ℕ) × (k ≡ suc j) × AtLine lines j (Links 1)) ⊎ AtLine lines (suc k) (Links 0)
+Shown Known lines k Loop = AtLine lines (suc k) (Links 0)
+Shown Known lines k Length = (j : ℕ) × ((k ≡ suc j) ⊎ (k ≡ suc (suc j))) × AtLine lines j Stores
+Shown Known lines k Gap = Known None
+Shown Known lines k (Dep read write) = Known (Some read) × ((j : ℕ) × (k < j) × (j ≤ k + 3) × AtLine lines j (λ x. (x.access ≡ Some write) × Stores x))
 
 -- ---- from the lines one by one
 
@@ -62,47 +62,47 @@ Backs whole k mark = (test : Option Instruction → Bool) → test None ≡ fals
 abbrev pub Aheads : List RustLine → ℕ → List RustLine → Type 0
 Aheads whole n xs = (j : ℕ) (x : RustLine) → slice_get xs j ≡ Some x → slice_get whole (n + j) ≡ Some x
 
-reason_shown : (Reads : ℕ → Type 0) (whole rest : List RustLine) (k : ℕ) (mark : Option Instruction) → Backs whole k mark → Aheads whole (suc k) rest → (cause : Cause) → CodeReason Reads mark (code_lines rest) cause → Shown Reads whole k cause
-reason_shown Reads whole rest k mark back ahead Entry r = back keeps_return refl r
-reason_shown Reads whole rest k mark back ahead Back (inl e) = inl (back (links 1) refl e)
-reason_shown Reads whole rest k mark back ahead Back (inr e) =
+reason_shown : (Known : Option ℕ → Type 0) (whole rest : List RustLine) (k : ℕ) (mark : Option Instruction) → Backs whole k mark → Aheads whole (suc k) rest → (cause : Cause) → CodeReason Known mark (code_lines rest) cause → Shown Known whole k cause
+reason_shown Known whole rest k mark back ahead Entry r = back keeps_return refl r
+reason_shown Known whole rest k mark back ahead Back (inl e) = inl (back (links 1) refl e)
+reason_shown Known whole rest k mark back ahead Back (inr e) =
     let t = jumps_there rest e in
     inr (t.0, subst (λ n. slice_get whole n ≡ Some t.0) (let q : suc k + 0 ≡ suc k = omega arith in q) (ahead 0 t.0 t.1), t.2)
-reason_shown Reads whole rest k mark back ahead Loop r =
+reason_shown Known whole rest k mark back ahead Loop r =
     let t = jumps_there rest r in
     (t.0, subst (λ n. slice_get whole n ≡ Some t.0) (let q : suc k + 0 ≡ suc k = omega arith in q) (ahead 0 t.0 t.1), t.2)
-reason_shown Reads whole rest k mark back ahead Length r = absurd r
-reason_shown Reads whole rest k mark back ahead Gap r = tt
-reason_shown Reads whole rest k mark back ahead (Dep read write) r =
+reason_shown Known whole rest k mark back ahead Length r = absurd r
+reason_shown Known whole rest k mark back ahead Gap r = r
+reason_shown Known whole rest k mark back ahead (Dep read write) r =
     let t = stores_there write rest 2 r.1 in
     let le = t.1 in
     (r.0, (suc k + t.0, omega arith, omega arith, (t.2.0, ahead t.0 t.2.0 t.2.1, t.2.2)))
 
-shown_from : (Reads Writes : ℕ → Type 0) (whole xs : List RustLine) (n : ℕ) (mark : Option Instruction) → Backs whole n mark → Aheads whole n xs → FitLines Reads Writes mark (code_lines xs) → (k m : ℕ) (line : RustLine) (cause : Cause) → m ≡ n + k → slice_get xs k ≡ Some line → line.cause ≡ Some cause → Shown Reads whole m cause
-shown_from Reads Writes whole [] n mark back ahead f k m line cause q e c = absurd cc
-shown_from Reads Writes whole (x ∷ xs) n mark back ahead f zero m line cause q e c =
+shown_from : (Known : Option ℕ → Type 0) (Writes : ℕ → Type 0) (whole xs : List RustLine) (n : ℕ) (mark : Option Instruction) → Backs whole n mark → Aheads whole n xs → FitLines Known Writes mark (code_lines xs) → (k m : ℕ) (line : RustLine) (cause : Cause) → m ≡ n + k → slice_get xs k ≡ Some line → line.cause ≡ Some cause → Shown Known whole m cause
+shown_from Known Writes whole [] n mark back ahead f k m line cause q e c = absurd cc
+shown_from Known Writes whole (x ∷ xs) n mark back ahead f zero m line cause q e c =
     let same : x ≡ line = cc in
     let here : n ≡ m = omega arith in
     let is : x.cause ≡ Some cause = ap (λ (z : RustLine). z.cause) same ∙ c in
-    subst (λ z. Shown Reads whole z cause) here
-    (reason_shown Reads whole xs n mark back (λ j y g. subst (λ z. slice_get whole z ≡ Some y) (let s : n + suc j ≡ suc n + j = omega arith in s) (ahead (suc j) y g)) cause
-    (subst (λ o. CauseFits Reads mark (code_lines xs) o) is f.0))
-shown_from Reads Writes whole (x ∷ xs) n mark back ahead f (suc k) m line cause q e c =
+    subst (λ z. Shown Known whole z cause) here
+    (reason_shown Known whole xs n mark back (λ j y g. subst (λ z. slice_get whole z ≡ Some y) (let s : n + suc j ≡ suc n + j = omega arith in s) (ahead (suc j) y g)) cause
+    (subst (λ o. CauseFits Known mark (code_lines xs) o) is f.0))
+shown_from Known Writes whole (x ∷ xs) n mark back ahead f (suc k) m line cause q e c =
     let here : slice_get whole n ≡ Some x = subst (λ z. slice_get whole z ≡ Some x) (let s : n + 0 ≡ n = omega arith in s) (ahead 0 x refl) in
-    shown_from Reads Writes whole xs (suc n) (Some (line_of x.instr)) (λ test z t. (n, refl, (x, here, t)))
+    shown_from Known Writes whole xs (suc n) (Some (line_of x.instr)) (λ test z t. (n, refl, (x, here, t)))
     (λ j y g. subst (λ z. slice_get whole z ≡ Some y) (let s : n + suc j ≡ suc n + j = omega arith in s) (ahead (suc j) y g))
     f.2 k m line cause (omega arith) e c
 
-pub shown_at : (Reads Writes : ℕ → Type 0) (lines : List RustLine) → FitLines Reads Writes None (code_lines lines) → (k : ℕ) (line : RustLine) (cause : Cause) → slice_get lines k ≡ Some line → line.cause ≡ Some cause → Shown Reads lines k cause
-shown_at Reads Writes lines f k line cause e c = shown_from Reads Writes lines lines 0 None (λ test no yes. absurd cc) (λ j x g. subst (λ z. slice_get lines z ≡ Some x) (let s : j ≡ 0 + j = omega arith in s) g) f k k line cause (omega arith) e c
+pub shown_at : (Known : Option ℕ → Type 0) (Writes : ℕ → Type 0) (lines : List RustLine) → FitLines Known Writes None (code_lines lines) → (k : ℕ) (line : RustLine) (cause : Cause) → slice_get lines k ≡ Some line → line.cause ≡ Some cause → Shown Known lines k cause
+shown_at Known Writes lines f k line cause e c = shown_from Known Writes lines lines 0 None (λ test no yes. absurd cc) (λ j x g. subst (λ z. slice_get lines z ≡ Some x) (let s : j ≡ 0 + j = omega arith in s) g) f k k line cause (omega arith) e c
 
-pub sorted_at : (Reads Writes : ℕ → Type 0) (xs : List RustLine) (mark : Option Instruction) → FitLines Reads Writes mark (code_lines xs) → (j : ℕ) (x : RustLine) (a : ℕ) → slice_get xs j ≡ Some x → x.access ≡ Some a → SortedAt Reads Writes x.instr.op (Some a)
-sorted_at Reads Writes [] mark f j x a e is = absurd cc
-sorted_at Reads Writes (y ∷ ys) mark f zero x a e is =
+pub sorted_at : (Known : Option ℕ → Type 0) (Writes : ℕ → Type 0) (xs : List RustLine) (mark : Option Instruction) → FitLines Known Writes mark (code_lines xs) → (j : ℕ) (x : RustLine) (a : ℕ) → slice_get xs j ≡ Some x → x.access ≡ Some a → SortedAt Known Writes x.instr.op (Some a)
+sorted_at Known Writes [] mark f j x a e is = absurd cc
+sorted_at Known Writes (y ∷ ys) mark f zero x a e is =
     let same : y ≡ x = cc in
     let own : y.access ≡ Some a = ap (λ (z : RustLine). z.access) same ∙ is in
-    subst (λ (z : RustLine). SortedAt Reads Writes z.instr.op (Some a)) same (subst (λ o. SortedAt Reads Writes y.instr.op o) own f.1)
-sorted_at Reads Writes (y ∷ ys) mark f (suc j) x a e is = sorted_at Reads Writes ys (Some (line_of y.instr)) f.2 j x a e is
+    subst (λ (z : RustLine). SortedAt Known Writes z.instr.op (Some a)) same (subst (λ o. SortedAt Known Writes y.instr.op o) own f.1)
+sorted_at Known Writes (y ∷ ys) mark f (suc j) x a e is = sorted_at Known Writes ys (Some (line_of y.instr)) f.2 j x a e is
 
 -- ---- no two lines are one access
 
@@ -160,12 +160,12 @@ module _ (parts : List Part) (words : List ℕ) (are : AreWordsOf (lines_of part
   jumps_word k t =
       subst (λ n. links 0 (instruction_at words n) ≡ true) (let s : first + suc k ≡ suc (first + k) = omega arith in s) (links_word 0 (suc k) t.0 t.1 ∙ t.2)
 
-  module _ (Reads Writes : ℕ → Type 0) (sorted : (r : ℕ) → Reads r → (j : ℕ) (x : RustLine) (a : ℕ) → slice_get lines j ≡ Some x → x.access ≡ Some a → SortedAt Reads Writes x.instr.op (Some a)) (apart : (a : ℕ) → Reads a → Writes a → ⊥) (one : (r : ℕ) → Reads r → (i j a : ℕ) (x y : RustLine) → slice_get lines i ≡ Some x → x.access ≡ Some a → slice_get lines j ≡ Some y → y.access ≡ Some a → i ≡ j) where
-    loads : (op : Op) (a : ℕ) → Reads a → SortedAt Reads Writes op (Some a) → is_load op ≡ true
+  module _ (Known : Option ℕ → Type 0) (Writes : ℕ → Type 0) (sorted : (r : ℕ) → Known (Some r) → (j : ℕ) (x : RustLine) (a : ℕ) → slice_get lines j ≡ Some x → x.access ≡ Some a → SortedAt Known Writes x.instr.op (Some a)) (apart : (a : ℕ) → Known (Some a) → Writes a → ⊥) (one : (r : ℕ) → Known (Some r) → (i j a : ℕ) (x y : RustLine) → slice_get lines i ≡ Some x → x.access ≡ Some a → slice_get lines j ≡ Some y → y.access ≡ Some a → i ≡ j) where
+    loads : (op : Op) (a : ℕ) → Known (Some a) → SortedAt Known Writes op (Some a) → is_load op ≡ true
     loads op a r (inl s) = s.1
     loads op a r (inr s) = absurd (apart a r s.0)
 
-    by_cause : (k : ℕ) (placed : Cause) (cause : Cause) → IsPlacedCause lines first cause placed → Shown Reads lines k cause → IsCaused words (first + k) placed
+    by_cause : (k : ℕ) (placed : Cause) (cause : Cause) → IsPlacedCause lines first cause placed → Shown Known lines k cause → IsCaused words (first + k) placed
     by_cause k placed Entry q s =
         let e = s.1 in
         subst (IsCaused words (first + k)) (sym q) (first + s.0, omega arith, keeps_word s.0 s.2.0 s.2.1 ∙ s.2.2)
@@ -192,5 +192,16 @@ module _ (parts : List Part) (words : List ℕ) (are : AreWordsOf (lines_of part
         subst (IsCaused words (first + k)) (sym q.is)
         ((first + q.read_at, refl, reads), (first + at.0, ap (λ n. address (first + n)) (sym same), omega arith, omega arith, writes))
 
-    pub caused_at : ((k : ℕ) (line : RustLine) (cause : Cause) → slice_get lines k ≡ Some line → line.cause ≡ Some cause → Shown Reads lines k cause) → (k : ℕ) (cut : Cut) → IsCutOf part first k cut → IsCaused words (first + k) cut.cause
-    caused_at shown k cut c = by_cause k cut.cause c.cause c.placed (shown k c.line c.cause c.is_line c.is_cause)
+    -- a gap cut is told only where a longest gap was asked for
+    asked_by : (k : ℕ) (placed : Cause) (cause : Cause) → IsPlacedCause lines first cause placed → Shown Known lines k cause → placed ≡ Gap → Known None
+    asked_by k placed Entry q s g = absurd cc
+    asked_by k placed Back q s g = absurd cc
+    asked_by k placed Loop q s g = absurd cc
+    asked_by k placed Length q s g = absurd cc
+    asked_by k placed Gap q s g = s
+    asked_by k placed (Dep read write) q s g = (let is = q.is in absurd cc)
+
+    pub caused_at : ((k : ℕ) (line : RustLine) (cause : Cause) → slice_get lines k ≡ Some line → line.cause ≡ Some cause → Shown Known lines k cause) → (k : ℕ) (cut : Cut) → IsCutOf part first k cut → IsCaused words (first + k) cut.cause × (cut.cause ≡ Gap → Known None)
+    caused_at shown k cut c =
+        let s = shown k c.line c.cause c.is_line c.is_cause in
+        (by_cause k cut.cause c.cause c.placed s, asked_by k cut.cause c.cause c.placed s)

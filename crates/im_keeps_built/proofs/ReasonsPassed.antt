@@ -1,5 +1,5 @@
 -- What the passes make of a program has its cuts where they are due.
-use Rattle.std.proofs.Common.{◌≡◌, ℕ, zero, suc, List, [], ◌∷◌, Option, Some, refl, subst}
+use Rattle.std.proofs.Common.{◌≡◌, ℕ, zero, suc, List, [], ◌∷◌, Option, Some, None, refl, subst}
 use Rattle.std.specs.Prelude.{slice_get}
 use Rattle.im_block.specs.declared.access.Tags.{Tags}
 use Rattle.im_block.specs.declared.unit.Function.{Function}
@@ -14,17 +14,17 @@ use Rattle.im_forward.specs.RegistersLaws.{RegistersLaw}
 use Rattle.im_recut.specs.Recut.{IsGapLimit, RecutsFunctions}
 use Rattle.im_typed.specs.declared.program.Prog.{Prog}
 use Rattle.im_compile.specs.Passed.{IsPassed}
-use Rattle.im_keeps_built.proofs.Numbers.{In, reads_of_blocks}
+use Rattle.im_keeps_built.proofs.Numbers.{reads_of_blocks}
 use Rattle.im_keeps_built.proofs.Reasons.{no_reads, ReasonedFunction}
 use Rattle.im_keeps_built.proofs.ReasonsForced.{Uncut, function_forced}
 use Rattle.im_keeps_built.proofs.ReasonsPlaced.{function_placed}
-use Rattle.im_keeps_built.proofs.ReasonsRecut.{AllApartHere, function_recut}
+use Rattle.im_keeps_built.proofs.ReasonsRecut.{AllApartHere, known, function_recut}
 
 abbrev Each : (Function → Type 0) → List Function → Type 0
 Each P fs = (i : ℕ) (f : Function) → slice_get fs i ≡ Some f → P f
 
-abbrev pub OwnReasons : Function → Type 0
-OwnReasons f = ReasonedFunction (λ a. In a (reads_of_blocks f.blocks.items)) f
+abbrev pub OwnReasons : Option ℕ → Function → Type 0
+OwnReasons max_gap f = ReasonedFunction (known (max_gap ≡ None → ⊥) (reads_of_blocks f.blocks.items)) f
 
 at_first : (P : Function → Type 0) (f g : Function) (fs : List Function) → P f → slice_get (f ∷ fs) 0 ≡ Some g → P g
 at_first P f g fs h e = let same : f ≡ g = cc in subst P same h
@@ -43,14 +43,14 @@ each_placed (x ∷ xs) [] h r i g e = absurd h
 each_placed (x ∷ xs) (y ∷ ys) h r zero g e = at_first (ReasonedFunction no_reads) y g ys (function_placed x y h.0 (r 0 x refl)) e
 each_placed (x ∷ xs) (y ∷ ys) h r (suc i) g e = each_placed xs ys h.1 (λ j f k. r (suc j) f k) i g e
 
-each_recut : GapApartLaw → (tags : Tags) (max_gap : Option ℕ) → IsGapLimit max_gap → (fs gs : List Function) → RecutsFunctions tags max_gap fs gs → Each (λ f. AllApartHere f.blocks.items) fs → Each (ReasonedFunction no_reads) fs → Each OwnReasons gs
+each_recut : GapApartLaw → (tags : Tags) (max_gap : Option ℕ) → IsGapLimit max_gap → (fs gs : List Function) → RecutsFunctions tags max_gap fs gs → Each (λ f. AllApartHere f.blocks.items) fs → Each (ReasonedFunction no_reads) fs → Each (OwnReasons max_gap) gs
 each_recut law tags max_gap limit [] [] h apart r i g e = absurd cc
 each_recut law tags max_gap limit [] (y ∷ ys) h apart r i g e = absurd h
 each_recut law tags max_gap limit (x ∷ xs) [] h apart r i g e = absurd h
-each_recut law tags max_gap limit (x ∷ xs) (y ∷ ys) h apart r zero g e = at_first OwnReasons y g ys (function_recut law tags max_gap x y limit h.0 (apart 0 x refl) (r 0 x refl)) e
+each_recut law tags max_gap limit (x ∷ xs) (y ∷ ys) h apart r zero g e = at_first (OwnReasons max_gap) y g ys (function_recut law tags max_gap x y limit h.0 (apart 0 x refl) (r 0 x refl)) e
 each_recut law tags max_gap limit (x ∷ xs) (y ∷ ys) h apart r (suc i) g e = each_recut law tags max_gap limit xs ys h.1 (λ j f k. apart (suc j) f k) (λ j f k. r (suc j) f k) i g e
 
-pub passed_reasons : RegistersLaw → ForceKeepsLaw → PlacedCodeLaw → GapApartLaw → (prog : Prog) (max_gap : Option ℕ) (code : Code) → IsPassed prog max_gap code → (i : ℕ) (f : Function) → slice_get code.functions.items i ≡ Some f → OwnReasons f
+pub passed_reasons : RegistersLaw → ForceKeepsLaw → PlacedCodeLaw → GapApartLaw → (prog : Prog) (max_gap : Option ℕ) (code : Code) → IsPassed prog max_gap code → (i : ℕ) (f : Function) → slice_get code.functions.items i ≡ Some f → OwnReasons max_gap f
 passed_reasons registers force placing gaps prog max_gap code p =
     let uncut : AllUncut p.forwarded = registers.uncut p.lowered p.forwarded p.registers p.uncut in
     let apart : AllApart p.placed = placing.apart p.forced p.placed p.place.placed (force.apart p.forwarded p.forced p.force uncut) in

@@ -23,7 +23,7 @@ Left before rest exit Entry = before ≡ Begins
 Left before rest exit Back = EndsLoop rest exit
 Left before rest exit Loop = EndsLoop rest exit
 Left before rest exit Length = ⊥
-Left before rest exit Gap = Unit {0}
+Left before rest exit Gap = ⊥
 Left before rest exit (Dep read write) = ⊥
 
 abbrev LeftLine : Before → List Line → Exit → Line → Type 0
@@ -49,7 +49,7 @@ left_of before lines exit Back n (inl e) = absurd (n e)
 left_of before lines exit Back n (inr e) = ends_needed exit lines e
 left_of before lines exit Loop n r = ends_needed exit lines r
 left_of before lines exit Length n r = absurd r
-left_of before lines exit Gap n r = tt
+left_of before lines exit Gap n r = r
 left_of before lines exit (Dep read write) n r = absurd r.0
 
 last : (b : ℕ) (lines : List Line) (cause : Cause) → Reason no_reads Called lines (Turn b) cause → Left Anything [] (Turn b) cause
@@ -57,7 +57,7 @@ last b lines Entry r = (let bad : Called ≡ Begins = r in absurd cc)
 last b lines Back r = tt
 last b lines Loop r = tt
 last b lines Length r = absurd r
-last b lines Gap r = tt
+last b lines Gap r = r
 last b lines (Dep read write) r = absurd r.0
 
 past : (exit : Exit) (rest : List Line) (cause : Cause) (lines : List Line) → Reason no_reads Called lines exit cause → AreLeft exit Anything rest → AreLeft exit Anything (loop_cut exit cause rest)
@@ -161,7 +161,7 @@ module _ (h : ℕ → Home) (exit out : Exit) (tail : List Line) (behind : Stand
   cut_put before n lines Back e = inr (ends n lines e)
   cut_put before n lines Loop e = ends n lines e
   cut_put before n lines Length e = e
-  cut_put before n lines Gap e = tt
+  cut_put before n lines Gap e = e
   cut_put before n lines (Dep read write) e = absurd e
 
   put : (before : Before) (n : ℕ) (line : Line) (lines : List Line) → LeftLine before lines exit line → Reasoned no_reads out Anything (put_lines h (n + numbers_kept) lines tail) → Reasoned no_reads out before (put_lines h n (line ∷ lines) tail)

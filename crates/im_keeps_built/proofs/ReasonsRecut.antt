@@ -18,7 +18,7 @@ use Rattle.im_cut_gap.specs.Gaps as gaps
 use Rattle.im_cut_gap.specs.Gaps.{GapLines, GapBlocks, GapCutsTo}
 use Rattle.im_cut_gap.specs.Laws.{GapApartLaw}
 use Rattle.im_recut.specs.Recut.{IsGapLimit, cost_limit, GapsTo, RecutsFunction}
-use Rattle.im_keeps_built.proofs.Reasons.{Before, Anything, behind_line, EndsLoop, IsWrite, no_reads, Fits, Reasoned, begins_at, ReasonedBlocks, ReasonedFunction, line_moved, loosened}
+use Rattle.im_keeps_built.proofs.Reasons.{Before, Anything, behind_line, EndsLoop, IsWrite, no_reads, Fits, Reasoned, begins_at, ReasonedBlocks, ReasonedFunction, line_moved, loosened, blocks_known}
 use Rattle.im_keeps_built.proofs.Numbers.{In, in_left, in_right, reads_of_line, reads_of_lines, reads_of_blocks, reads_in}
 
 -- ---- gap cuts, none of them beside another cut
@@ -34,32 +34,37 @@ apart_here : (line : Line) (rest : List Line) → CutsApart (line ∷ rest) → 
 apart_here (Cut cause) rest a c = a.0
 apart_here line rest a c = absurd c
 
-module _ (limit : ℕ) (was : List Block) (f : Function) (b : ℕ) (exit : Exit) where
+-- what is known of functions: whether a longest gap was asked for, and the numbers of their reads
+abbrev pub known : Type 0 → List ℕ → Option ℕ → Type 0
+known Asked reads None = Asked
+known Asked reads (Some a) = In a reads
+
+module _ (Asked : Type 0) (asked : Asked) (limit : ℕ) (was : List Block) (f : Function) (b : ℕ) (exit : Exit) where
   gap_ends : (n : ℕ) (old new : List Line) → GapLines limit was f b exit n old new → (StartsWithCut new → ⊥) → EndsLoop old exit → EndsLoop new exit
   gap_ends n old new (gaps.Empty k) uncut e = e
   gap_ends n old new (gaps.Same k line x y g) uncut e = absurd e
   gap_ends n old new (gaps.Added k x y long g) uncut e = absurd (uncut tt)
 
-  gap_lines : (n : ℕ) (old new : List Line) (before : Before) → GapLines limit was f b exit n old new → CutsApart new → Reasoned no_reads exit before old → Reasoned no_reads exit before new
+  gap_lines : (n : ℕ) (old new : List Line) (before : Before) → GapLines limit was f b exit n old new → CutsApart new → Reasoned no_reads exit before old → Reasoned (known Asked []) exit before new
   gap_lines n old new before (gaps.Empty k) apart r = tt
   gap_lines n old new before (gaps.Same k line x y g) apart r =
-      (line_moved no_reads before x y exit line (λ c. gap_ends (suc k) x y g (apart_here line y apart c)) r.0, gap_lines (suc k) x y (behind_line line) g (apart_behind line y apart) r.1)
-  gap_lines n old new before (gaps.Added k x y long g) apart r = (tt, loosened no_reads exit before Anything y apart.0 (gap_lines (suc k) x y before g apart.1 r))
+      (line_moved no_reads (known Asked []) (λ (no : ⊥). absurd no) (λ a no. no) before x y exit line (λ c. gap_ends (suc k) x y g (apart_here line y apart c)) r.0, gap_lines (suc k) x y (behind_line line) g (apart_behind line y apart) r.1)
+  gap_lines n old new before (gaps.Added k x y long g) apart r = (asked, loosened (known Asked []) exit before Anything y apart.0 (gap_lines (suc k) x y before g apart.1 r))
 
-gap_blocks : (limit : ℕ) (was : List Block) (f : Function) (entry b : ℕ) (xs ys : List Block) → GapBlocks limit was f b xs ys → AllApartHere ys → ReasonedBlocks no_reads entry b xs → ReasonedBlocks no_reads entry b ys
-gap_blocks limit was f entry b [] [] h apart r = tt
-gap_blocks limit was f entry b [] (y ∷ ys) h apart r = absurd h
-gap_blocks limit was f entry b (x ∷ xs) [] h apart r = absurd h
-gap_blocks limit was f entry b (x ∷ xs) (y ∷ ys) h apart r =
+gap_blocks : (Asked : Type 0) → Asked → (limit : ℕ) (was : List Block) (f : Function) (entry b : ℕ) (xs ys : List Block) → GapBlocks limit was f b xs ys → AllApartHere ys → ReasonedBlocks no_reads entry b xs → ReasonedBlocks (known Asked []) entry b ys
+gap_blocks Asked asked limit was f entry b [] [] h apart r = tt
+gap_blocks Asked asked limit was f entry b [] (y ∷ ys) h apart r = absurd h
+gap_blocks Asked asked limit was f entry b (x ∷ xs) [] h apart r = absurd h
+gap_blocks Asked asked limit was f entry b (x ∷ xs) (y ∷ ys) h apart r =
     let here = subst (λ e. Reasoned no_reads e (begins_at entry b) x.lines.items) (sym h.1) r.0 in
-    (gap_lines limit was f b y.exit 0 x.lines.items y.lines.items (begins_at entry b) h.0 (apart 0 y refl) here, gap_blocks limit was f entry (suc b) xs ys h.2 (λ k block e. apart (suc k) block e) r.1)
+    (gap_lines Asked asked limit was f b y.exit 0 x.lines.items y.lines.items (begins_at entry b) h.0 (apart 0 y refl) here, gap_blocks Asked asked limit was f entry (suc b) xs ys h.2 (λ k block e. apart (suc k) block e) r.1)
 
-gapped : GapApartLaw → (max_gap : Option ℕ) (old new : Function) → IsGapLimit max_gap → GapsTo max_gap old new → AllApartHere old.blocks.items → ReasonedFunction no_reads old → ReasonedFunction no_reads new
-gapped law None old new limit h apart r = subst (ReasonedFunction no_reads) (sym h) r
+gapped : GapApartLaw → (max_gap : Option ℕ) (old new : Function) → IsGapLimit max_gap → GapsTo max_gap old new → AllApartHere old.blocks.items → ReasonedFunction no_reads old → ReasonedFunction (known (max_gap ≡ None → ⊥) []) new
+gapped law None old new limit h apart r = subst (ReasonedFunction (known (None ≡ None → ⊥) [])) (sym h) (blocks_known (known (None ≡ None → ⊥) []) old.entry 0 old.blocks.items r)
 gapped law (Some gap) old new limit h apart r =
     let entry : new.entry ≡ old.entry = ap (λ (f : Function). f.entry) h.rest in
     let still = law (cost_limit gap) old new (omega arith) h apart in
-    subst (λ e. ReasonedBlocks no_reads e 0 new.blocks.items) (sym entry) (gap_blocks (cost_limit gap) old.blocks.items new old.entry 0 old.blocks.items new.blocks.items h.blocks still r)
+    subst (λ e. ReasonedBlocks (known (Some gap ≡ None → ⊥) []) e 0 new.blocks.items) (sym entry) (gap_blocks (Some gap ≡ None → ⊥) (λ (e : Some gap ≡ None). absurd cc) (cost_limit gap) old.blocks.items new old.entry 0 old.blocks.items new.blocks.items h.blocks still r)
 
 -- ---- the read of a greedy cut is one of a path
 
@@ -137,15 +142,15 @@ writes (Write place kind from access) w d e n = let same : site_of access kind �
 writes (Spill slot from access) w d e n = let same : slot_site access slot ≡ w = cc in ap (λ (s : Site). s.number) same ∙ n
 writes line w d e n = absurd cc
 
-write_fits : (Reads : ℕ → Type 0) (before : Before) (rest : List Line) (exit : Exit) (line : Line) (w : Site) → steps_of line ≡ WriteStep w ∷ [] → Fits Reads before rest exit line
-write_fits Reads before rest exit (Cut cause) w e = absurd cc
-write_fits Reads before rest exit line w e = tt
+write_fits : (Known : Option ℕ → Type 0) (before : Before) (rest : List Line) (exit : Exit) (line : Line) (w : Site) → steps_of line ≡ WriteStep w ∷ [] → Fits Known before rest exit line
+write_fits Known before rest exit (Cut cause) w e = absurd cc
+write_fits Known before rest exit line w e = tt
 
-module _ (tags : Tags) (f : Function) (causes : List Cause) where
-  abbrev Reads : ℕ → Type 0
-  Reads a = In a (reads_of_blocks f.blocks.items)
+module _ (Asked : Type 0) (tags : Tags) (f : Function) (causes : List Cause) where
+  abbrev Known : Option ℕ → Type 0
+  Known = known Asked (reads_of_blocks f.blocks.items)
 
-  due_reads : (done : List Dep) (d : Dep) (w : Site) (at : Spot) → IsDue tags f causes done d w at → Reads d.read
+  due_reads : (done : List Dep) (d : Dep) (w : Site) (at : Spot) → IsDue tags f causes done d w at → Known (Some d.read)
   due_reads done d w at due =
       subst (λ n. In n (reads_of_blocks f.blocks.items)) due.number
       (path_reads f.blocks.items due.start (start_stands f causes done due.start due.starts) due.path at due.goes due.read (opened tags due.path due.read due.opens))
@@ -155,25 +160,25 @@ module _ (tags : Tags) (f : Function) (causes : List Cause) where
   cut_ends b exit done old new added (Same d line x y more k) e = absurd e
   cut_ends b exit done old new added (Added d dep w line x y more is number due k) e = absurd e
 
-  cut_lines : (b : ℕ) (exit : Exit) (done : List Dep) (old new : List Line) (added : List Dep) (before : Before) → CutLines tags f causes b exit done old new added → Reasoned no_reads exit before old → Reasoned Reads exit before new
+  cut_lines : (b : ℕ) (exit : Exit) (done : List Dep) (old new : List Line) (added : List Dep) (before : Before) → CutLines tags f causes b exit done old new added → Reasoned (known Asked []) exit before old → Reasoned Known exit before new
   cut_lines b exit done old new added before (Empty d) r = tt
   cut_lines b exit done old new added before (Same d line x y more k) r =
-      (line_moved Reads before x y exit line (λ c. cut_ends b exit d x y more k) r.0, cut_lines b exit d x y more (behind_line line) k r.1)
+      (line_moved (known Asked []) Known (λ (a : Asked). a) (λ a no. no) before x y exit line (λ c. cut_ends b exit d x y more k) r.0, cut_lines b exit d x y more (behind_line line) k r.1)
   cut_lines b exit done old new added before (Added d dep w line x y more is number due k) r =
-      ((due_reads d dep w (spot b (Cut (cause_of dep) ∷ line ∷ y) exit) due, writes line w dep is number), (write_fits Reads Anything y exit line w is, cut_lines b exit (d ++ dep ∷ []) x y more (behind_line line) k r.1))
+      ((due_reads d dep w (spot b (Cut (cause_of dep) ∷ line ∷ y) exit) due, writes line w dep is number), (write_fits Known Anything y exit line w is, cut_lines b exit (d ++ dep ∷ []) x y more (behind_line line) k r.1))
 
-  cut_blocks : (entry b : ℕ) (xs ys : List Block) (added : List Dep) → CutBlocks tags f causes b xs ys added → ReasonedBlocks no_reads entry b xs → ReasonedBlocks Reads entry b ys
+  cut_blocks : (entry b : ℕ) (xs ys : List Block) (added : List Dep) → CutBlocks tags f causes b xs ys added → ReasonedBlocks (known Asked []) entry b xs → ReasonedBlocks Known entry b ys
   cut_blocks entry b [] [] added h r = tt
   cut_blocks entry b [] (y ∷ ys) added h r = absurd h
   cut_blocks entry b (x ∷ xs) [] added h r = absurd h
   cut_blocks entry b (x ∷ xs) (y ∷ ys) added h r =
-      let here = subst (λ e. Reasoned no_reads e (begins_at entry b) x.lines.items) (sym h.5) r.0 in
+      let here = subst (λ e. Reasoned (known Asked []) e (begins_at entry b) x.lines.items) (sym h.5) r.0 in
       (cut_lines b y.exit h.0 x.lines.items y.lines.items h.1 (begins_at entry b) h.4 here, cut_blocks entry (suc b) xs ys h.0 h.3 r.1)
 
-pub function_recut : GapApartLaw → (tags : Tags) (max_gap : Option ℕ) (old new : Function) → IsGapLimit max_gap → RecutsFunction tags max_gap old new → AllApartHere old.blocks.items → ReasonedFunction no_reads old → ReasonedFunction (λ a. In a (reads_of_blocks new.blocks.items)) new
+pub function_recut : GapApartLaw → (tags : Tags) (max_gap : Option ℕ) (old new : Function) → IsGapLimit max_gap → RecutsFunction tags max_gap old new → AllApartHere old.blocks.items → ReasonedFunction no_reads old → ReasonedFunction (known (max_gap ≡ None → ⊥) (reads_of_blocks new.blocks.items)) new
 function_recut law tags max_gap old new limit h apart r =
     let cuts = h.cuts in
     let entry : new.entry ≡ h.gapped.entry = ap (λ (f : Function). f.entry) cuts.rest in
     let before = gapped law max_gap old h.gapped limit h.gaps apart r in
-    subst (λ e. ReasonedBlocks (λ a. In a (reads_of_blocks new.blocks.items)) e 0 new.blocks.items) (sym entry)
-    (cut_blocks tags new (causes_of_blocks h.gapped.blocks.items) h.gapped.entry 0 h.gapped.blocks.items new.blocks.items h.added cuts.blocks before)
+    subst (λ e. ReasonedBlocks (known (max_gap ≡ None → ⊥) (reads_of_blocks new.blocks.items)) e 0 new.blocks.items) (sym entry)
+    (cut_blocks (max_gap ≡ None → ⊥) tags new (causes_of_blocks h.gapped.blocks.items) h.gapped.entry 0 h.gapped.blocks.items new.blocks.items h.added cuts.blocks before)

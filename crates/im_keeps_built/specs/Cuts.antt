@@ -74,3 +74,7 @@ pub record AreCuts (functions : List (List ℕ)) (words : List ℕ) (cuts : List
   pub all : (k : ℕ) → IsCutWord words k → (c : ℕ) × (cut : Cut) × (slice_get cuts c ≡ Some cut) × (cut.at ≡ address k)
   pub named : (c : ℕ) (cut : Cut) → slice_get cuts c ≡ Some cut → (p : ℕ) × (slice_get (part_names functions) p ≡ Some (string_bytes cut.function))
   pub caused : (c : ℕ) (cut : Cut) → slice_get cuts c ≡ Some cut → (k : ℕ) → cut.at ≡ address k → IsCaused words k cut.cause
+
+-- no cut is told to stand where it does for a longest gap, where none was asked for
+abbrev pub AreGapsAsked : Option ℕ → List Cut → Type 0
+AreGapsAsked max_gap cuts = max_gap ≡ None → (c : ℕ) (cut : Cut) → slice_get cuts c ≡ Some cut → cut.cause ≡ Gap → ⊥
