@@ -1,4 +1,14 @@
 mod Marked
+mod Numbers
+mod Reasons
+mod ReasonsForced
+mod ReasonsPlaced
+mod ReasonsRecut
+mod ReasonsSelected
+mod ReasonsLaid
+mod ReasonsLinked
+mod ReasonsParts
+mod ReasonsPassed
 mod Cuts
 mod Selected
 mod Chained

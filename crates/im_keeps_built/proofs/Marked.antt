@@ -305,7 +305,7 @@ function_marked i laying =
 -- ---- the lines of all parts
 
 -- the lines of a part are its code
-code_is : (parts : List Part) (p : ℕ) (part : Part) (code : List CodeLine) → IsPart parts p part → HasCode parts p code → code_lines part.lines.items ≡ code
+pub code_is : (parts : List Part) (p : ℕ) (part : Part) (code : List CodeLine) → IsPart parts p part → HasCode parts p code → code_lines part.lines.items ≡ code
 code_is parts p part code a c = let b = c.is_part in let one : part ≡ c.part = cc in ap (λ (z : Part). code_lines z.lines.items) one ∙ c.lines
 
 abbrev AllMarked : List RustLine → Type 0

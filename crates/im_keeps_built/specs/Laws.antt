@@ -13,7 +13,7 @@ use Rattle.im_compile.specs.declared.built.Built.{Built}
 use Rattle.im_compile.specs.Passed.{IsSource}
 use Rattle.im_compile.specs.Built.{IsBuilt, bytes_of}
 use Rattle.im_compile.specs.Faults.{HasLargeFrame, HasLargeCode}
-use Rattle.im_keeps_built.specs.Cuts.{AreCuts}
+use Rattle.im_keeps_built.specs.Cuts.{AreCuts, AreGapsAsked}
 
 -- the bytes of each function's frame
 abbrev pub frames_of : Built → List ℕ
@@ -26,17 +26,18 @@ BuiltSelectsLaw =
 
 -- Keeps: for every input and every list of periods; and what follows where power never fails; the gap that is told is the
 -- longest of the image's code, and the cuts are that code's
-pub record BuiltKeeps (prog : Prog) (built : Built) : Type 0 where
+pub record BuiltKeeps (prog : Prog) (options : Options) (built : Built) : Type 0 where
   pub keeps : ProgramKeeps (program_of prog) (frames_of built) built.image built.gap
   -- the longest gap has at most an instruction for each word of the code, beside those of recovery
   pub gap : built.gap ≤ recovery_steps + length built.image.words
   pub measure : IsGap built.image.words built.image.entry built.gap
   pub cuts : AreCuts (map (λ (f : Func). f.name) (program_of prog).funcs) built.image.words built.cuts.items
+  pub asked : AreGapsAsked options.max_gap built.cuts.items
 
 abbrev pub BuiltKeepsLaw : Type 0
 BuiltKeepsLaw =
     (prog : Prog) (options : Options) (built : Built) → IsSource prog → IsBuilt prog options built →
-    BuiltKeeps prog built
+    BuiltKeeps prog options built
 
 -- a function's frame has more bytes than a frame may have, and no more than it may need
 pub record IsLargeFrame (prog : Program) (i bytes : ℕ) : Type 0 where

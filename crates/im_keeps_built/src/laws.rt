@@ -2,6 +2,9 @@ ghost use Rattle.im_keeps_built.specs.Laws.{BuiltKeepsLaw, BuiltSelectsLaw, Refu
 
 use im_alloc_laws::placed_code_law;
 use im_compile::ready_law;
+use im_cut_gap::gap_apart_law;
+use im_force::force_keeps_law;
+use im_forward::registers_law;
 use im_gap::gap_bound_law;
 use im_keeps_source::{lowers_law, middle_law, program_keeps_law};
 use im_link_laws::{linkable_law, words_law};
@@ -32,6 +35,11 @@ pub fn built_keeps_law()
     middle_law();
     program_keeps_law();
     gap_bound_law();
+    registers_law();
+    force_keeps_law();
+    placed_code_law();
+    gap_apart_law();
+    ready_law();
 }
 
 /// A program that is refused by a frame or by the code that is made of it is one that may need so
