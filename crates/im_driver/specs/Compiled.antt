@@ -33,7 +33,7 @@ use Rattle.im_gap.specs.Gap.{recovery_steps, IsGap}
 use Rattle.im_keeps.specs.Keeps.{IsInput, IsRightFor, Keeps}
 use Rattle.im_keeps_passes.specs.Laws.{Survives, KeepsUninterrupted, ReachesUninterrupted}
 use Rattle.im_keeps_source.specs.Laws.{meaning_of}
-use Rattle.im_keeps_built.specs.Cuts.{AreCuts}
+use Rattle.im_keeps_built.specs.Cuts.{AreCuts, AreGapsAsked}
 use Rattle.im_keeps_built.specs.Laws.{frames_of, IsLargeFrame, IsLargeCode}
 use Rattle.im_keeps_writes.specs.Writes.{Writes}
 
@@ -87,6 +87,7 @@ pub record IsCompiled (source : List ℕ) (options : Options) (built : Built) : 
   pub small : 4 * length built.image.words ≤ 4096 + 256 * prog_nodes prog
   pub frames : AreFrames prog.funcs built.frames.frames.items
   pub cuts : AreCuts (names_of prog.funcs) built.image.words built.cuts.items
+  pub asked : AreGapsAsked options.max_gap built.cuts.items
   -- what was asked for
   pub stack_is : built.image.stack ≡ options.stack
   pub out_cap_is : built.image.out_cap ≡ options.out_cap

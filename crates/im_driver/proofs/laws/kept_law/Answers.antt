@@ -22,6 +22,7 @@ returns c source prog options built ready is_built =
         small = passes.small;
         frames = frames prog options built is_built passes.frames_fit;
         cuts = kept.cuts;
+        asked = kept.asked;
         stack_is = is_built.pack.stack_is;
         out_cap_is = is_built.pack.out_cap_is;
       };
