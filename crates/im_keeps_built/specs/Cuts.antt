@@ -46,6 +46,10 @@ IsLoadWord words k = has_op is_load (instruction_at words k) ≡ true
 abbrev pub IsStoreWord : List ℕ → ℕ → Type 0
 IsStoreWord words k = has_op is_store (instruction_at words k) ≡ true
 
+-- jal x0: a jump, which links nothing (2.5)
+abbrev pub IsJumpWord : List ℕ → ℕ → Type 0
+IsJumpWord words k = links 0 (instruction_at words k) ≡ true
+
 -- sw x1, n(x2): a function stores the address to which it returns
 abbrev pub keeps_by : Op → ℕ → ℕ → Bool
 keeps_by Sw rs1 rs2 = rs1 == 2 && rs2 == 1
@@ -55,16 +59,19 @@ abbrev pub keeps_return : Option Line → Bool
 keeps_return None = false
 keeps_return (Some l) = keeps_by l.op l.rs1 l.rs2
 
--- of a cut that is word k. Entry: directly behind the store of the return address, with which a function begins. Return: directly
--- behind a call (jal that links x1), or directly before a jump (jal that links x0), where a loop ends with its call. Loop: directly
--- before a jump. Length: one of the two words before it stores. Dep: a word of the code at `read` loads, and the one at `write`, one to
--- three words behind the cut, stores. Of a gap cut the code shows nothing
+-- what the words around a cut show of its cause. The cut is word k
 abbrev pub IsCaused : List ℕ → ℕ → Cause → Type 0
+-- directly behind the store of the return address, with which a function begins
 IsCaused words k Entry = (j : ℕ) × (k ≡ suc j) × (keeps_return (instruction_at words j) ≡ true)
-IsCaused words k Return = IsBehind words 1 k ⊎ (links 0 (instruction_at words (suc k)) ≡ true)
-IsCaused words k Loop = links 0 (instruction_at words (suc k)) ≡ true
+-- directly behind a call; or, where the body of a loop ends with that call, directly before a jump
+IsCaused words k Return = IsBehind words 1 k ⊎ IsJumpWord words (suc k)
+-- directly before a jump
+IsCaused words k Loop = IsJumpWord words (suc k)
+-- one of the two words before it stores
 IsCaused words k Length = (j : ℕ) × ((k ≡ suc j) ⊎ (k ≡ suc (suc j))) × IsStoreWord words j
+-- nothing
 IsCaused words k Gap = Unit {0}
+-- the first address is that of a load of the code, the second that of a store, one to three words behind the cut
 IsCaused words k (Dep read write) = ((i : ℕ) × (read ≡ address i) × IsLoadWord words i) × ((j : ℕ) × (write ≡ address j) × (k < j) × (j ≤ k + 3) × IsStoreWord words j)
 
 -- by address: each is a cut of the code, with the name of its part and a cause that is so, and each cut of the code is told
