@@ -1,4 +1,4 @@
-"""Cuts by dependence, as `report` tells them."""
+"""Cuts and their causes, as `report` tells them."""
 import struct
 import sys
 
@@ -9,8 +9,6 @@ sys.path.insert(0, TOP + "/tools")
 from image import Image  # noqa: E402
 
 LOAD, STORE, JAL = 0x03, 0x23, 0x6F
-# the write's address may take two instructions behind its cut
-BEFORE_WRITE = (4, 8, 12)
 
 
 def dependences(room, source):
@@ -20,17 +18,58 @@ def dependences(room, source):
     return [(int(it[1], 16), it[2], int(it[4], 16), int(it[5], 16)) for it in words if it[3] == "dep"]
 
 
-@test("a dependence's cut stands before its write, and its read is another access")
-def dependences_of_examples(room):
+class Words:
+    """The words of an image's code, numbered from 0x1000 on; what stands beside them is none of it."""
+
+    def __init__(self, code):
+        self.words = [word for (word,) in struct.iter_unpack("<I", code)]
+
+    def has(self, k, opcode):
+        return 0 <= k < len(self.words) and self.words[k] & 0x7F == opcode
+
+    def links(self, k, register):
+        """A jal that puts the address behind it into that register; of x0 it is a jump."""
+        return self.has(k, JAL) and self.words[k] >> 7 & 31 == register
+
+    def keeps_return(self, k):
+        """sw x1, n(x2), with which a function begins."""
+        return self.has(k, STORE) and (self.words[k] >> 12 & 7, self.words[k] >> 15 & 31, self.words[k] >> 20 & 31) == (2, 2, 1)
+
+
+def number(address):
+    """Of the word at an address, in hexadecimal digits."""
+    return (int(address, 16) - 0x1000) // 4
+
+
+# what the words around a cut, which is word k, show of its cause, and of the two addresses of a dependence
+SHOWN = {
+    "entry": lambda code, k: code.keeps_return(k - 1),
+    "return": lambda code, k: code.links(k - 1, 1) or code.links(k + 1, 0),
+    "loop": lambda code, k: code.links(k + 1, 0),
+    "length": lambda code, k: code.has(k - 1, STORE) or code.has(k - 2, STORE),
+    "gap": lambda code, k: True,
+    "dep": lambda code, k, read, write: (
+        code.has(number(read), LOAD) and code.has(number(write), STORE) and k < number(write) <= k + 3
+    ),
+}
+
+
+@test("each cut of the code is told, with a cause that the words around it show")
+def caused(room):
+    seen = set()
     for name in EXAMPLES:
-        source = f"crates/im_examples/data/{name}.c"
-        room.build(source, "it.img")
-        code = Image(room.read("it.img")).code
-        kinds = {0x1000 + 4 * index: word & 0x7F for index, (word,) in enumerate(struct.iter_unpack("<I", code))}
-        for cut, _, read, write in dependences(room, source):
-            where = f"{name}: the cut at {cut:08x}"
-            same(where, [kinds.get(it) for it in (cut, read, write)], [JAL, LOAD, STORE])
-            holds(f"{where}: not close before its write at {write:08x}", write - cut in BEFORE_WRITE)
+        for options in ((), ("--max-gap", "160")):
+            source = f"crates/im_examples/data/{name}.c"
+            room.call("build", source, "it.img", *options).wants(name, 0)
+            code = Words(Image(room.read("it.img")).code)
+            lines = [line.split() for line in room.call("report", source, *options).wants(name, 0).out.decode().splitlines()]
+            cuts = [(number(words[1]), words[3], words[4:]) for words in lines if words[0] == "cut"]
+            same(f"{name}: the cuts", [k for k, _, _ in cuts], [k for k in range(len(code.words)) if code.links(k, 3)])
+            for k, cause, accesses in cuts:
+                holds(f"{name}: word {k} is no {cause}", SHOWN[cause](code, k, *accesses))
+                holds(f"{name}: a gap wasn't asked for", cause != "gap" or options)
+                seen.add(cause)
+    same("the causes that were seen", sorted(seen), sorted(SHOWN))
 
 
 @test("pointers to two objects need no cut between them, and pointers to one do")
