@@ -30,7 +30,7 @@ use std::alloc::Global;
 /// | 6 | the text of the trace's file is no trace's |
 /// | 7 | a file can't be read |
 /// | 8 | the image, the memory, the output or the report can't be written |
-/// | 9 | memory ran out |
+/// | 9 | memory ran out, or a number passed what no memory holds |
 /// | 10 | a run ended by a machine fault |
 /// | 11 | what a source that is evaluated does is undefined |
 /// | 12 | an evaluation ran out of fuel |

@@ -54,7 +54,8 @@ pub fn wrapping()
     ensures conversion { (input : List ℕ) (fuel : ℕ) →
         meaning signed_char_of_200 input fuel ≡ End 0 (negsuc 55) [] [] }
     ensures sum { (input : List ℕ) (fuel : ℕ) →
-        meaning (computes Add (pos 2147483647) (pos 1)) input fuel ≡ End 0 (negsuc 2147483647) [] [] }
+        meaning (computes Add (pos 2147483647) (pos 1)) input fuel
+        ≡ End 0 (negsuc 2147483647) [] [] }
 {}
 
 /// A right shift keeps the sign, and a count of 32 is undefined (C11 6.5.7).
@@ -68,7 +69,8 @@ pub fn shifts()
 /// The least int, divided by -1, is undefined (C11 6.5.5).
 pub fn quotient_overflow()
     ensures { (input : List ℕ) (fuel : ℕ) →
-        meaning (computes Divide (negsuc 2147483647) (negsuc 0)) input fuel ≡ Undef QuotientOverflow }
+        meaning (computes Divide (negsuc 2147483647) (negsuc 0)) input fuel
+        ≡ Undef QuotientOverflow }
 {}
 
 /// Order is by the kind: -1 is below 1 as an int, and as an unsigned it is the greatest number
