@@ -1,5 +1,5 @@
 -- The registers that a run still needs.
-use Rattle.std.specs.Prelude.{◌≡◌, ℕ, ◌<◌, ◌≤◌, Bool, true, false, not, ◌&&◌, ◌||◌, ◌==◌}
+use Rattle.std.specs.Prelude.{◌≡◌, ℕ, ◌<◌, ◌≤◌, ◌⊎◌, Bool, true, false, not, ◌&&◌, ◌||◌, ◌==◌}
 use Rattle.im_rv.specs.Effects.{rs1_of, rs2_of}
 use Rattle.im_ckpt.specs.Runs.{State, line_at, effect_at, sets}
 use Rattle.im_ckpt.specs.Buffers.{saves_by}
@@ -9,8 +9,12 @@ abbrev pub uses : State → ℕ → Bool
 uses s i = i == rs1_of (line_at s) || (i == rs2_of (line_at s) && not (saves_by (effect_at s)))
 
 -- from time t on the run uses the register before it sets it
-pub record Needed (run : ℕ → State) (t i : ℕ) : Type 0 where
+pub record Used (run : ℕ → State) (t i : ℕ) : Type 0 where
   pub time : ℕ
   pub later : t ≤ time
   pub used : uses (run time) i ≡ true
   pub unset : (u : ℕ) → t ≤ u → u < time → sets (run u) i ≡ false
+
+-- so does it; or the register is the stack pointer x2, above which the frames lie whether it is used again or not
+abbrev pub Needed : (ℕ → State) → ℕ → ℕ → Type 0
+Needed run t i = Used run t i ⊎ (i ≡ 2)

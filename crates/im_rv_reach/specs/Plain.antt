@@ -1,8 +1,8 @@
 -- What each single step of compiled code keeps, whatever its run does: it stands in the code, stores into no code, leaves
--- INDEX and the register buffers to recovery and the checkpoint, and the settings as they are, takes back nothing that was
--- shown, stores output behind it alone, and returns behind calls.
-use Rattle.std.specs.Prelude.{◌≡◌, ◌≢◌, ◌<◌, ◌≤◌, ◌⊎◌, ℕ, ◌+◌, Bool, true, false, ◌&&◌, ◌||◌, nat_le, nat_lt, List, [], ◌∷◌, length, Option, Some, None}
-use Rattle.im_mem.specs.Map.{code_start, statics_start, buffer0_start, index_at, out_len0_at, out_cap_at, in_len_at, stack_lim_at, out_len1_at, out_sel_at, output_start}
+-- INDEX and the register buffers to recovery and the checkpoint, and the settings as they are, stores into no stack below the
+-- stack pointer, takes back nothing that was shown, stores output behind it alone, and returns behind calls.
+use Rattle.std.specs.Prelude.{◌≡◌, ◌≢◌, ◌<◌, ◌≤◌, ◌⊎◌, ℕ, ◌+◌, ◌-◌, Bool, true, false, ◌&&◌, ◌||◌, nat_le, nat_lt, List, [], ◌∷◌, length, Option, Some, None}
+use Rattle.im_mem.specs.Map.{code_start, statics_start, buffer0_start, index_at, out_len0_at, out_cap_at, in_len_at, stack_lim_at, out_len1_at, out_sel_at, stack_end, stack_capacity, output_start}
 use Rattle.im_mem.specs.Memory.{Mem, little}
 use Rattle.im_rv.specs.declared.instr.Op.{Op}
 use Rattle.im_rv.specs.declared.instr.Op.TheVariants.{Jalr}
@@ -64,6 +64,16 @@ AreDue m k (Loaded a n ∷ ts) = AreDue m k ts
 AreDue m k (Stored a n ∷ ts) = IsDue m k a n × AreDue m k ts
 AreDue m k (Flipped ∷ ts) = AreDue m k ts
 
+-- n bytes from a on are none of the free stack, which lies below the stack pointer
+abbrev pub IsBesideFree : ℕ → ℕ → ℕ → Type 0
+IsBesideFree pointer a n = (a + n ≤ stack_end - stack_capacity) ⊎ (pointer ≤ a) ⊎ (stack_end ≤ a)
+
+abbrev pub AreBesideFree : ℕ → List Touch → Type 0
+AreBesideFree pointer [] = Unit {0}
+AreBesideFree pointer (Loaded a n ∷ ts) = AreBesideFree pointer ts
+AreBesideFree pointer (Stored a n ∷ ts) = IsBesideFree pointer a n × AreBesideFree pointer ts
+AreBesideFree pointer (Flipped ∷ ts) = AreBesideFree pointer ts
+
 abbrev pub returns_by : Op → Bool
 returns_by Jalr = true
 returns_by _ = false
@@ -83,5 +93,6 @@ pub record IsPlain (c : Cpu) (m : Mem) : Type 0 where
   pub inside : (code_start ≤ c.pc) × (c.pc + 4 ≤ statics_start)
   pub allowed : AreAllowed (in_runtime c.pc) (touches c m)
   pub due : AreDue m (step_of c m).mem (touches c m)
+  pub free : AreBesideFree (c.x 2) (touches c m)
   pub grows : Begins (shown m) (shown (step_of c m).mem)
   pub returns : in_runtime c.pc ≡ false → is_return (fetched_line c m) ≡ true → IsBehindCall m (step_of c m).cpu.pc
