@@ -1,5 +1,5 @@
 -- The two ends.
-use Rattle.std.proofs.Common.{ℕ, ◌+◌, ◌≤◌, [], ◌∷◌, ap, ◌∙◌, refl, arith}
+use Rattle.std.proofs.Common.{ℕ, ◌+◌, ◌≤◌, inl, [], ◌∷◌, ap, ◌∙◌, refl, arith}
 use Rattle.im_num.specs.Bytes.{bytes_of}
 use Rattle.im_mem.specs.Memory.{Mem, written}
 use Rattle.im_mem.proofs.Words.{written-above, length-bytes_of}
@@ -23,7 +23,7 @@ exit_law image place has m x fixed x0 =
     let s1 = s0.2 in
     let k : Mem = written m 4 (bytes_of 4 (x 10)) in
     then_stops 1 1 (Stored 4 4 ∷ []) [] _ _ m k k
-    (stores image m p x (instruction Sw 0 0 10 4) 4 4 (x 10) fixed s0.0 (ap (λ z. Stores (sum_of z 4) 4 (x 10)) x0) refl (output_told m 4 4 (x 10) (omega arith)) (low_store (in_runtime p) 4 4 (omega arith) (omega arith)))
+    (stores image m p x (instruction Sw 0 0 10 4) 4 4 (x 10) fixed s0.0 (ap (λ z. Stores (sum_of z 4) 4 (x 10)) x0) refl (output_told m 4 4 (x 10) (omega arith)) (low_store (in_runtime p) 4 4 (omega arith) (omega arith)) (inl (omega arith)))
     (halts image k (p + 4) x (instruction Ebreak 0 0 0 0) (told_fixed image m 4 (x 10) (omega arith) fixed) s1.0 refl)
 
 pub stack_law : StackLaw
@@ -37,5 +37,5 @@ stack_law image place has m x fixed x0 =
     then_stops 1 2 [] (Stored 8 4 ∷ []) _ _ m m k
     (puts image m p x (instruction Addi 5 0 0 1) 1 fixed s0.0 (ap (λ z. Puts (sum_of z 1) (sum_of p 4)) x0) refl)
     (then_stops 1 1 (Stored 8 4 ∷ []) [] _ _ m k k
-    (stores image m (p + 4) x1 (instruction Sw 0 0 5 8) 8 4 1 fixed s1.0 (ap (λ z. Stores (sum_of z 8) 4 1) x0) refl (output_told m 8 4 1 (omega arith)) (low_store (in_runtime (p + 4)) 8 4 (omega arith) (omega arith)))
+    (stores image m (p + 4) x1 (instruction Sw 0 0 5 8) 8 4 1 fixed s1.0 (ap (λ z. Stores (sum_of z 8) 4 1) x0) refl (output_told m 8 4 1 (omega arith)) (low_store (in_runtime (p + 4)) 8 4 (omega arith) (omega arith)) (inl (omega arith)))
     (halts image k (p + 4 + 4) x1 (instruction Ebreak 0 0 0 0) (told_fixed image m 8 1 (omega arith) fixed) s2.0 refl))

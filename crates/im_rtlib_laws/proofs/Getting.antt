@@ -144,7 +144,7 @@ module _ (image : Mem) (place : ℕ → ℕ) (has : HasRoutines image place) (p 
       let same : shown m1 ≡ shown k = shown_alike k m1 long out_k out1 fits (λ i from to. above i (omega arith)) in
       let y0 : c.y 0 ≡ 0 = c.regs 0 (omega arith) (omega arith) ∙ x0 in
       let y5 : c.y 5 ≡ suc n = c.regs 5 (omega arith) (omega arith) in
-      let s8 : Ran 1 (Stored 24 4 ∷ []) (at (spot p 8) c.y) k (at (spot p 9) c.y) m1 = store_step image k (spot p 8) c.y (instruction Sw 0 0 5 24) 24 4 (suc n) fixed_k lines.l8 (ap (λ z. Stores (sum_of z 24) 4 (c.y 5)) y0 ∙ ap (λ z. Stores 24 4 z) y5) refl (begins_same (shown k) (shown m1) same) refl (due_beside k m1 24 4 (omega arith) (inr (omega arith)) (inl (omega arith)) (record { capacity = inr (omega arith); input = inr (omega arith); limit = inl (omega arith) }) (omega arith)) in
+      let s8 : Ran 1 (Stored 24 4 ∷ []) (at (spot p 8) c.y) k (at (spot p 9) c.y) m1 = store_step image k (spot p 8) c.y (instruction Sw 0 0 5 24) 24 4 (suc n) fixed_k lines.l8 (ap (λ z. Stores (sum_of z 24) 4 (c.y 5)) y0 ∙ ap (λ z. Stores 24 4 z) y5) refl (begins_same (shown k) (shown m1) same) refl (due_beside k m1 24 4 (omega arith) (inr (omega arith)) (inl (omega arith)) (record { capacity = inr (omega arith); input = inr (omega arith); limit = inl (omega arith) }) (omega arith)) (inl (omega arith)) in
       let s9 : Ran 1 [] (at (spot p 9) c.y) m1 (at back (with_reg c.y 0 (sum_of (spot p 9) 4))) m1 = return image m1 (spot p 9) c.y back fixed1 lines.l9 (c.regs 1 (omega arith) (omega arith) ∙ link) even low behind in
       let none = none_reg c.y (sum_of (spot p 9) 4) in
       record {

@@ -297,7 +297,7 @@ module _ (image : Mem) (place : ℕ → ℕ) (has : HasRoutines image place) (p 
       let s1 : Ran 1 [] (at (spot p 7) x1) m (at (spot p 8) x1) m = less_on image m (spot p 7) x1 6 7 (distance (spot p 7) (spot p 22)) fixed lines.l7 (ap (λ z. nat_lt z (little m 16 4)) x6 ∙ room) in
       let s2 : Ran 1 [] (at (spot p 8) x1) m (at (spot p 9) x2) m = put_step image m (spot p 8) x1 (instruction Lui 7 0 0 0x400) 4194304 fixed lines.l8 refl refl in
       let s3 : Ran 1 [] (at (spot p 9) x2) m (at (spot p 10) x3) m = put_step image m (spot p 9) x2 (instruction Add 7 7 6 0) a fixed lines.l9 (ap (λ z. Puts z (sum_of (spot p 9) 4)) sum) refl in
-      let s4 : Ran 1 (seen (Stored a 1 ∷ [])) (at (spot p 10) x3) m (at (spot p 11) x3) m1 = store_step image m (spot p 10) x3 (instruction Sb 0 7 10 0) a 1 v fixed lines.l10 (ap (λ z. Stores z 1 (x 10)) there ∙ ap (λ z. Stores a 1 z) x10) (byte_place a (omega arith)) (begins_same (shown m) (shown m1) same) (data_allowed (in_runtime (spot p 10)) a 1 (omega arith)) (next_byte m m1 n long small room) in
+      let s4 : Ran 1 (seen (Stored a 1 ∷ [])) (at (spot p 10) x3) m (at (spot p 11) x3) m1 = store_step image m (spot p 10) x3 (instruction Sb 0 7 10 0) a 1 v fixed lines.l10 (ap (λ z. Stores z 1 (x 10)) there ∙ ap (λ z. Stores a 1 z) x10) (byte_place a (omega arith)) (begins_same (shown m) (shown m1) same) (data_allowed (in_runtime (spot p 10)) a 1 (omega arith)) (next_byte m m1 n long small room) (inr (inr (omega arith))) in
       let s4' : Ran 1 (Stored a 1 ∷ []) (at (spot p 10) x3) m (at (spot p 11) x3) m1 = subst (λ us. Ran 1 us (at (spot p 10) x3) m (at (spot p 11) x3) m1) (byte_stored a (omega arith)) s4 in
       let s5 : Ran 1 [] (at (spot p 11) x3) m1 (at (spot p 12) x4) m1 = put_step image m1 (spot p 11) x3 (instruction Addi 6 6 0 1) (suc n) fixed1 lines.l11 (ap (λ z. Puts z (sum_of (spot p 11) 4)) next) refl in
       let c : Committed m1 (spot p 12) x4 = commit image place has m1 (spot p 12) x4 lines.l12 fixed1 x0 (subst (λ z. z < 2) (sym (word 0 (omega arith))) index) (written-small m a 1 v bytes) in
@@ -351,7 +351,7 @@ module _ (image : Mem) (place : ℕ → ℕ) (has : HasRoutines image place) (p 
       let fixed1 : Fixed image m1 = fixed_by m 32 4 v (inl (omega arith)) fixed in
       let end = lines.l17.low in
       let s0 : Ran 1 [] (at (spot p 13) x) m (at (spot p 14) x) m = same_on image m (spot p 13) x 5 0 (distance (spot p 13) (spot p 16)) fixed lines.l13 (ap (λ z. x 5 == z) x0 ∙ x5) in
-      let s1 : Ran 1 (Stored 32 4 ∷ []) (at (spot p 14) x) m (at (spot p 15) x) m1 = store_step image m (spot p 14) x (instruction Sw 0 0 6 32) 32 4 v fixed lines.l14 (ap (λ z. Stores (sum_of z 32) 4 (x 6)) x0 ∙ ap (λ z. Stores 32 4 z) x6) refl (begins_same (shown m) (shown m1) same) refl (record { first = λ z. inr (omega arith); second = λ z. absurd (z (is_zero (m 36) sel)); turns = λ z. absurd (omega arith); capacity = inr (omega arith); input = inr (omega arith); limit = inr (omega arith); appends = λ z. absurd (omega arith) }) in
+      let s1 : Ran 1 (Stored 32 4 ∷ []) (at (spot p 14) x) m (at (spot p 15) x) m1 = store_step image m (spot p 14) x (instruction Sw 0 0 6 32) 32 4 v fixed lines.l14 (ap (λ z. Stores (sum_of z 32) 4 (x 6)) x0 ∙ ap (λ z. Stores 32 4 z) x6) refl (begins_same (shown m) (shown m1) same) refl (record { first = λ z. inr (omega arith); second = λ z. absurd (z (is_zero (m 36) sel)); turns = λ z. absurd (omega arith); capacity = inr (omega arith); input = inr (omega arith); limit = inr (omega arith); appends = λ z. absurd (omega arith) }) (inl (omega arith)) in
       let x1 : ℕ → ℕ = with_reg x 0 (sum_of (spot p 15) 4) in
       let s2 : Ran 1 [] (at (spot p 15) x) m1 (at (spot p 17) x1) m1 = jump image m1 (spot p 15) x (spot p 17) fixed1 lines.l15 (omega arith) in
       let none = none_reg x (sum_of (spot p 15) 4) in
@@ -370,7 +370,7 @@ module _ (image : Mem) (place : ℕ → ℕ) (has : HasRoutines image place) (p 
       let fixed1 : Fixed image m1 = fixed_by m 12 4 v (inl (omega arith)) fixed in
       let end = lines.l16.low in
       let s0 : Ran 1 [] (at (spot p 13) x) m (at (spot p 16) x) m = apart_to image m (spot p 13) x 5 0 (spot p 16) fixed lines.l13 (ap (λ z. x 5 == z) x0 ∙ x5) (omega arith) in
-      let s1 : Ran 1 (Stored 12 4 ∷ []) (at (spot p 16) x) m (at (spot p 17) x) m1 = store_step image m (spot p 16) x (instruction Sw 0 0 6 12) 12 4 v fixed lines.l16 (ap (λ z. Stores (sum_of z 12) 4 (x 6)) x0 ∙ ap (λ z. Stores 12 4 z) x6) refl (begins_same (shown m) (shown m1) same) refl (record { first = λ z. absurd (let q = not_zero (m 36) sel in omega arith); second = λ z. inl (omega arith); turns = λ z. absurd (omega arith); capacity = inl (omega arith); input = inl (omega arith); limit = inl (omega arith); appends = λ z. absurd (omega arith) }) in
+      let s1 : Ran 1 (Stored 12 4 ∷ []) (at (spot p 16) x) m (at (spot p 17) x) m1 = store_step image m (spot p 16) x (instruction Sw 0 0 6 12) 12 4 v fixed lines.l16 (ap (λ z. Stores (sum_of z 12) 4 (x 6)) x0 ∙ ap (λ z. Stores 12 4 z) x6) refl (begins_same (shown m) (shown m1) same) refl (record { first = λ z. absurd (let q = not_zero (m 36) sel in omega arith); second = λ z. inl (omega arith); turns = λ z. absurd (omega arith); capacity = inl (omega arith); input = inl (omega arith); limit = inl (omega arith); appends = λ z. absurd (omega arith) }) (inl (omega arith)) in
       let c : Committed m1 (spot p 17) x = commit image place has m1 (spot p 17) x lines.l17 fixed1 x0 (subst (λ z. z < 2) (sym (little-other m 12 4 v 0 4 (inl (omega arith)))) index) (written-small m 12 4 v bytes) in
       record {
         at_length = record { count = 20; some = omega arith; few = omega arith; y = c.y; k = c.k; ran = follow s0 (follow s1 c.ran); kept = c.kept; bytes = c.bytes; index = c.index };
@@ -393,7 +393,7 @@ module _ (image : Mem) (place : ℕ → ℕ) (has : HasRoutines image place) (p 
       let m1 : Mem = written m 36 (bytes_of 1 v) in
       let fixed1 : Fixed image m1 = fixed_by m 36 1 v (inl (omega arith)) fixed in
       let s0 : Ran 1 [] (at (spot p 18) x) m (at (spot p 19) y1) m = put_step image m (spot p 18) x (instruction Sltiu 5 5 0 1) v fixed lines.l18 (ap (λ z. Puts z (sum_of (spot p 18) 4)) (tested (x 5) b x5)) refl in
-      let s1 : Ran 1 (Stored 36 1 ∷ []) (at (spot p 19) y1) m (at (spot p 20) y1) m1 = store_step image m (spot p 19) y1 (instruction Sb 0 0 5 36) 36 1 v fixed lines.l19 (ap (λ z. Stores (sum_of z 36) 1 v) x0) refl more refl (due_beside m m1 36 1 (omega arith) (inr (omega arith)) (inr (omega arith)) (unset_above 36 1 (omega arith)) (omega arith)) in
+      let s1 : Ran 1 (Stored 36 1 ∷ []) (at (spot p 19) y1) m (at (spot p 20) y1) m1 = store_step image m (spot p 19) y1 (instruction Sb 0 0 5 36) 36 1 v fixed lines.l19 (ap (λ z. Stores (sum_of z 36) 1 v) x0) refl more refl (due_beside m m1 36 1 (omega arith) (inr (omega arith)) (inr (omega arith)) (unset_above 36 1 (omega arith)) (omega arith)) (inl (omega arith)) in
       let c : Committed m1 (spot p 20) y1 = commit image place has m1 (spot p 20) y1 lines.l20 fixed1 x0 (subst (λ z. z < 2) (sym (little-other m 36 1 v 0 4 (inl (omega arith)))) index) (written-small m 36 1 v bytes) in
       let fixed2 : Fixed image c.k = kept_fixed image m1 c.k c.kept fixed1 in
       let link : c.y 1 ≡ back = c.regs 1 (omega arith) (omega arith) ∙ x1 in

@@ -18,7 +18,7 @@ use Rattle.im_rv_reach.specs.Seen.{in_buffer, is_checkpoints, seen}
 use Rattle.im_rv_reach.specs.Shown.{shown, Begins}
 use Rattle.im_rv_reach.specs.Reach.{plus, Reach}
 use Rattle.im_rv_reach.specs.Instructions.{Holds, Fixed}
-use Rattle.im_rv_reach.specs.Plain.{in_runtime, may_load, may_store, AreAllowed, IsDue, AreDue, returns_by, IsBehindCall}
+use Rattle.im_rv_reach.specs.Plain.{in_runtime, may_load, may_store, AreAllowed, IsDue, AreDue, IsBesideFree, AreBesideFree, returns_by, IsBehindCall}
 use Rattle.im_rv_reach.proofs.Reach.{plain_one, join, nothing, puts, leaps, passes, loads, fetches, next_pc, back_of, no_back, stores_on, Backs}
 use Rattle.im_rv_reach.proofs.Orderly.{seen-append}
 
@@ -112,12 +112,12 @@ pub byte_place : (a : ℕ) → a < 5242880 → is_place a 1 ≡ true
 byte_place a l = ap (λ z. z == 0 && nat_le (a + 1) 5242880) (mod-one a) ∙ in_memory a l
 
 -- one step after which more is shown
-grown : (ts : List Touch) (c d : Cpu) (m k : Mem) → step_of c m ≡ record { went = On; cpu = d; mem = k } → touches c m ≡ ts → Begins (shown m) (shown k) → (4096 ≤ c.pc) × (c.pc + 4 ≤ 1048576) → AreAllowed (in_runtime c.pc) ts → AreDue m k ts → Backs c m d.pc → Reach 1 ts c m d k
-grown ts c d m k e h more inside allowed due backs = record {
+grown : (ts : List Touch) (c d : Cpu) (m k : Mem) → step_of c m ≡ record { went = On; cpu = d; mem = k } → touches c m ≡ ts → Begins (shown m) (shown k) → (4096 ≤ c.pc) × (c.pc + 4 ≤ 1048576) → AreAllowed (in_runtime c.pc) ts → AreDue m k ts → AreBesideFree (c.x 2) ts → Backs c m d.pc → Reach 1 ts c m d k
+grown ts c d m k e h more inside allowed due free backs = record {
   ran = λ j. one_more j c d m k e;
   met = λ j. ap (λ (s : Stepped). touches c m ++ touched_on (touched j) s.cpu s.mem s.went) e ∙ ap (λ t. t ++ touched j d k) h;
   grows = now;
-  each = plain_one ts c d m k e h inside allowed due backs more;
+  each = plain_one ts c d m k e h inside allowed due free backs more;
 }
   where
     now : (i : ℕ) → i ≤ 1 → Begins (shown (runs i c m).mem) (shown k)
@@ -129,14 +129,14 @@ touches_are : (c : Cpu) (m : Mem) (w : ℕ) (l : Line) → Fetches c m w l → t
 touches_are c m w l f = ap (word_touches c) (fetch_is m c.pc w f.word f.here) ∙ ap (line_touches c) f.line
 
 -- a store after which as much is shown or more
-pub store_step : (image m : Mem) (pc : ℕ) (x : ℕ → ℕ) (l : Line) (a n v : ℕ) → Fixed image m → Holds image pc l → row l.op pc (x l.rs1) (x l.rs2) l.imm ≡ Stores a n v → is_place a n ≡ true → Begins (shown m) (shown (written m a (bytes_of n v))) → may_store (in_runtime pc) a n ≡ true → IsDue m (written m a (bytes_of n v)) a n → Ran 1 (seen (Stored a n ∷ [])) (at pc x) m (at (pc + 4) x) (written m a (bytes_of n v))
-store_step image m pc x l a n v fixed h e ok more may due =
+pub store_step : (image m : Mem) (pc : ℕ) (x : ℕ → ℕ) (l : Line) (a n v : ℕ) → Fixed image m → Holds image pc l → row l.op pc (x l.rs1) (x l.rs2) l.imm ≡ Stores a n v → is_place a n ≡ true → Begins (shown m) (shown (written m a (bytes_of n v))) → may_store (in_runtime pc) a n ≡ true → IsDue m (written m a (bytes_of n v)) a n → IsBesideFree (x 2) a n → Ran 1 (seen (Stored a n ∷ [])) (at pc x) m (at (pc + 4) x) (written m a (bytes_of n v))
+store_step image m pc x l a n v fixed h e ok more may due free =
     let c : Cpu = at pc x in
     let f : Fetches c m h.w l = fetches image m pc x l fixed h in
     record {
       ts = Stored a n ∷ [];
       reach = grown (Stored a n ∷ []) c (at (pc + 4) x) m (written m a (bytes_of n v))
           (stores_step c m h.w l a n v f e ok ∙ ap (λ q. record { went = On; cpu = at q x; mem = written m a (bytes_of n v) }) (next_pc image pc l h))
-          (touches_are c m h.w l f ∙ ap touch_of e) more (h.above, h.low) (may, tt) (due, tt) (back_of c m h.w l (pc + 4) f (no_back pc l m (pc + 4) (stores_on l.op pc (x l.rs1) (x l.rs2) l.imm a n v e)));
+          (touches_are c m h.w l f ∙ ap touch_of e) more (h.above, h.low) (may, tt) (due, tt) (free, tt) (back_of c m h.w l (pc + 4) f (no_back pc l m (pc + 4) (stores_on l.op pc (x l.rs1) (x l.rs2) l.imm a n v e)));
       saw = refl;
     }

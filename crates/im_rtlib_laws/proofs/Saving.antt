@@ -157,7 +157,7 @@ climb image m x index (suc n) p routine e fixed base bytes =
     let address : sum_of (x 4) (slot r) ≡ a = ap (λ z. sum_of z (slot r)) base ∙ small_sum (idle index) (slot r) (slot_small index r named.1) in
     let side : Beside m k = beside_store m a (x r) above below bytes in
     let h : Holds image (ladder_at p) (store_line r) = ladder_holds image routine p (store_line r) (omega arith) (ladder_store p low) (store_back r named.1) in
-    let step : Ran 1 (seen (Stored a 4 ∷ [])) (at (ladder_at p) x) m (at (ladder_at p + 4) x) k = store_step image m (ladder_at p) x (store_line r) a 4 (x r) fixed h (ap (λ z. Stores z 4 (x r)) address) (slot_place index r named.1) (begins_same (shown m) (shown k) (kept_shown m k side.kept)) (buffer_store (ladder_at p) a 4 (in_ladder p (omega arith)) (omega arith)) (due_beside m k a 4 (omega arith) (inr (omega arith)) (inr (omega arith)) (unset_above a 4 (omega arith)) (omega arith)) in
+    let step : Ran 1 (seen (Stored a 4 ∷ [])) (at (ladder_at p) x) m (at (ladder_at p + 4) x) k = store_step image m (ladder_at p) x (store_line r) a 4 (x r) fixed h (ap (λ z. Stores z 4 (x r)) address) (slot_place index r named.1) (begins_same (shown m) (shown k) (kept_shown m k side.kept)) (buffer_store (ladder_at p) a 4 (in_ladder p (omega arith)) (omega arith)) (due_beside m k a 4 (omega arith) (inr (omega arith)) (inr (omega arith)) (unset_above a 4 (omega arith)) (omega arith)) (inl (omega arith)) in
     let unseen : Ran 1 [] (at (ladder_at p) x) m (at (ladder_at p + 4) x) k = subst (λ us. Ran 1 us (at (ladder_at p) x) m (at (ladder_at p + 4) x) k) (buffer_unseen a above below) step in
     let place : ladder_at p + 4 ≡ ladder_at (suc p) = omega arith in
     let rest = climb image k x index n (suc p) routine (omega arith) (kept_fixed image m k side.kept fixed) base side.bytes in
@@ -287,7 +287,7 @@ saving image m x e routine low high fixed x0 even small index bytes =
       appends = λ z. absurd (omega arith);
     } in
     let shift : Ran 1 [] (at (ladder_at 30) y) k (at (ladder_at 31) y1) k = put_step image k (ladder_at 30) y shift_line v fixed_k (ladder_holds image routine 30 shift_line (omega arith) refl shift_back) refl refl in
-    let flip : Ran 1 (Flipped ∷ []) (at (ladder_at 31) y1) k (at (ladder_at 32) y1) h = store_step image k (ladder_at 31) y1 flip_line 0 4 v fixed_k (ladder_holds image routine 31 flip_line (omega arith) refl flip_back) (ap (λ z. Stores (sum_of z 0) 4 v) y0) refl (begins_same (shown k) (shown h) (kept_shown k h flip_kept)) refl turns in
+    let flip : Ran 1 (Flipped ∷ []) (at (ladder_at 31) y1) k (at (ladder_at 32) y1) h = store_step image k (ladder_at 31) y1 flip_line 0 4 v fixed_k (ladder_holds image routine 31 flip_line (omega arith) refl flip_back) (ap (λ z. Stores (sum_of z 0) 4 v) y0) refl (begins_same (shown k) (shown h) (kept_shown k h flip_kept)) refl turns (inl (omega arith)) in
     let target : sum_of (y1 3) 0 - sum_of (y1 3) 0 % 2 ≡ x 3 = ap (λ z. sum_of z 0 - sum_of z 0 % 2) y3 ∙ even_jump (x 3) even small in
     let back : Ran 1 [] (at (ladder_at 32) y1) h (at (x 3) (with_reg y1 0 (sum_of (ladder_at 32) 4))) h = leap_step image h (ladder_at 32) y1 return_line (sum_of (ladder_at 32) 4) (x 3) fixed_h (ladder_holds image routine 32 return_line (omega arith) refl return_back) (ap (λ z. Puts (sum_of (ladder_at 32) 4) z) target) (λ out is. absurd (let bad : true ≡ false = out in cc)) in
     let count : plus 5 (plus (e - 1) 3) ≡ e + 7 = (let q = plus_is (e - 1) 3 in omega arith) in

@@ -22,7 +22,7 @@ use Rattle.im_image.specs.declared.form.Form.TheVariants.{TwoLengths}
 use Rattle.im_device.specs.Shows.{output_length}
 use Rattle.im_mem.specs.Map.{out_len0_at, out_len1_at, out_sel_at, output_start, output_capacity, in_len_at, in_pos_at, input_start}
 use Rattle.im_rv_reach.specs.Shown.{shown, left, Begins}
-use Rattle.im_rv_reach.specs.Plain.{in_runtime, may_load, may_store, AreAllowed, IsApart, IsDue, AreDue, returns_by, is_return, IsBehindCall, IsPlain}
+use Rattle.im_rv_reach.specs.Plain.{in_runtime, may_load, may_store, AreAllowed, IsApart, IsDue, AreDue, IsBesideFree, AreBesideFree, returns_by, is_return, IsBehindCall, IsPlain}
 use Rattle.im_rv_reach.specs.Reach.{plus, Reach, Stopped}
 use Rattle.im_rv_reach.specs.Instructions.{Holds, Fixed}
 
@@ -76,22 +76,23 @@ abbrev pub Backs : Cpu → Mem → ℕ → Type 0
 Backs c m target = in_runtime c.pc ≡ false → is_return (fetched_line c m) ≡ true → IsBehindCall m target
 
 -- one step is plain
-pub plain_one : (ts : List Touch) (c d : Cpu) (m k : Mem) → step_of c m ≡ record { went = On; cpu = d; mem = k } → touches c m ≡ ts → (4096 ≤ c.pc) × (c.pc + 4 ≤ 1048576) → AreAllowed (in_runtime c.pc) ts → AreDue m k ts → Backs c m d.pc → Begins (shown m) (shown k) → (i : ℕ) → i < 1 → IsPlain (runs i c m).cpu (runs i c m).mem
-plain_one ts c d m k e h inside allowed due backs more zero lt = record {
+pub plain_one : (ts : List Touch) (c d : Cpu) (m k : Mem) → step_of c m ≡ record { went = On; cpu = d; mem = k } → touches c m ≡ ts → (4096 ≤ c.pc) × (c.pc + 4 ≤ 1048576) → AreAllowed (in_runtime c.pc) ts → AreDue m k ts → AreBesideFree (c.x 2) ts → Backs c m d.pc → Begins (shown m) (shown k) → (i : ℕ) → i < 1 → IsPlain (runs i c m).cpu (runs i c m).mem
+plain_one ts c d m k e h inside allowed due free backs more zero lt = record {
   inside = inside;
   allowed = subst (AreAllowed (in_runtime c.pc)) (sym h) allowed;
   due = subst (λ (s : Stepped). AreDue m s.mem (touches c m)) (sym e) (subst (AreDue m k) (sym h) due);
+  free = subst (AreBesideFree (c.x 2)) (sym h) free;
   grows = subst (λ (s : Stepped). Begins (shown m) (shown s.mem)) (sym e) more;
   returns = λ out is. subst (λ (s : Stepped). IsBehindCall m s.cpu.pc) (sym e) (backs out is);
 }
-plain_one ts c d m k e h inside allowed due backs more (suc i) lt = absurd (omega arith)
+plain_one ts c d m k e h inside allowed due free backs more (suc i) lt = absurd (omega arith)
 
-pub one : (ts : List Touch) (c d : Cpu) (m k : Mem) → step_of c m ≡ record { went = On; cpu = d; mem = k } → touches c m ≡ ts → shown k ≡ shown m → (4096 ≤ c.pc) × (c.pc + 4 ≤ 1048576) → AreAllowed (in_runtime c.pc) ts → AreDue m k ts → Backs c m d.pc → Reach 1 ts c m d k
-one ts c d m k e h same inside allowed due backs = record {
+pub one : (ts : List Touch) (c d : Cpu) (m k : Mem) → step_of c m ≡ record { went = On; cpu = d; mem = k } → touches c m ≡ ts → shown k ≡ shown m → (4096 ≤ c.pc) × (c.pc + 4 ≤ 1048576) → AreAllowed (in_runtime c.pc) ts → AreDue m k ts → AreBesideFree (c.x 2) ts → Backs c m d.pc → Reach 1 ts c m d k
+one ts c d m k e h same inside allowed due free backs = record {
   ran = λ j. one_more j c d m k e;
   met = λ j. ap (λ (s : Stepped). touches c m ++ touched_on (touched j) s.cpu s.mem s.went) e ∙ ap (λ t. t ++ touched j d k) h;
   grows = at;
-  each = plain_one ts c d m k e h inside allowed due backs (begins_same (shown m) (shown k) same);
+  each = plain_one ts c d m k e h inside allowed due free backs (begins_same (shown m) (shown k) same);
 }
   where
     at : (i : ℕ) → i ≤ 1 → Begins (shown (runs i c m).mem) (shown k)
@@ -276,21 +277,21 @@ puts image m pc x l v fixed h e on =
     let f : Fetches c m h.w l = fetches image m pc x l fixed h in
     one [] c (record { pc = pc + 4; x = with_reg x l.rd v }) m m
     (puts_step c m h.w l v (sum_of pc 4) f e ∙ ap (λ q. record { went = On; cpu = record { pc = q; x = with_reg x l.rd v }; mem = m }) (next_pc image pc l h))
-    (touches_is c m h.w l f ∙ ap touch_of e) refl (h.above, h.low) tt tt (back_of c m h.w l (pc + 4) f (no_back pc l m (pc + 4) on))
+    (touches_is c m h.w l f ∙ ap touch_of e) refl (h.above, h.low) tt tt tt (back_of c m h.w l (pc + 4) f (no_back pc l m (pc + 4) on))
 
 -- one that puts a value and jumps
 pub leaps : (image m : Mem) (pc : ℕ) (x : ℕ → ℕ) (l : Line) (v target : ℕ) → Fixed image m → Holds image pc l → row l.op pc (x l.rs1) (x l.rs2) l.imm ≡ Puts v target → (in_runtime pc ≡ false → returns_by l.op ≡ true → IsBehindCall m target) → Reach 1 [] (record { pc = pc; x = x }) m (record { pc = target; x = with_reg x l.rd v }) m
 leaps image m pc x l v target fixed h e back =
     let c : Cpu = record { pc = pc; x = x } in
     let f : Fetches c m h.w l = fetches image m pc x l fixed h in
-    one [] c (record { pc = target; x = with_reg x l.rd v }) m m (puts_step c m h.w l v target f e) (touches_is c m h.w l f ∙ ap touch_of e) refl (h.above, h.low) tt tt (back_of c m h.w l target f back)
+    one [] c (record { pc = target; x = with_reg x l.rd v }) m m (puts_step c m h.w l v target f e) (touches_is c m h.w l f ∙ ap touch_of e) refl (h.above, h.low) tt tt tt (back_of c m h.w l target f back)
 
 -- one that goes somewhere
 pub passes : (image m : Mem) (pc : ℕ) (x : ℕ → ℕ) (l : Line) (target : ℕ) → Fixed image m → Holds image pc l → row l.op pc (x l.rs1) (x l.rs2) l.imm ≡ Goes target → Reach 1 [] (record { pc = pc; x = x }) m (record { pc = target; x = x }) m
 passes image m pc x l target fixed h e =
     let c : Cpu = record { pc = pc; x = x } in
     let f : Fetches c m h.w l = fetches image m pc x l fixed h in
-    one [] c (record { pc = target; x = x }) m m (goes_step c m h.w l target f e) (touches_is c m h.w l f ∙ ap touch_of e) refl (h.above, h.low) tt tt (back_of c m h.w l target f (no_back pc l m target (passes_on l.op pc (x l.rs1) (x l.rs2) l.imm target e)))
+    one [] c (record { pc = target; x = x }) m m (goes_step c m h.w l target f e) (touches_is c m h.w l f ∙ ap touch_of e) refl (h.above, h.low) tt tt tt (back_of c m h.w l target f (no_back pc l m target (passes_on l.op pc (x l.rs1) (x l.rs2) l.imm target e)))
 
 -- one that loads
 pub loads : (image m : Mem) (pc : ℕ) (x : ℕ → ℕ) (l : Line) (a n : ℕ) (extension : Extension) → Fixed image m → Holds image pc l → row l.op pc (x l.rs1) (x l.rs2) l.imm ≡ Loads a n extension → is_place a n ≡ true → may_load (in_runtime pc) a n ≡ true → Reach 1 (Loaded a n ∷ []) (record { pc = pc; x = x }) m (record { pc = pc + 4; x = with_reg x l.rd (extended n extension (little m a n)) }) m
@@ -299,16 +300,16 @@ loads image m pc x l a n extension fixed h e ok may =
     let f : Fetches c m h.w l = fetches image m pc x l fixed h in
     one (Loaded a n ∷ []) c (record { pc = pc + 4; x = with_reg x l.rd (extended n extension (little m a n)) }) m m
     (loads_step c m h.w l a n extension f e ok ∙ ap (λ q. record { went = On; cpu = record { pc = q; x = with_reg x l.rd (extended n extension (little m a n)) }; mem = m }) (next_pc image pc l h))
-    (touches_is c m h.w l f ∙ ap touch_of e) refl (h.above, h.low) (may, tt) tt (back_of c m h.w l (pc + 4) f (no_back pc l m (pc + 4) (loads_on l.op pc (x l.rs1) (x l.rs2) l.imm a n extension e)))
+    (touches_is c m h.w l f ∙ ap touch_of e) refl (h.above, h.low) (may, tt) tt tt (back_of c m h.w l (pc + 4) f (no_back pc l m (pc + 4) (loads_on l.op pc (x l.rs1) (x l.rs2) l.imm a n extension e)))
 
 -- one that stores
-pub stores : (image m : Mem) (pc : ℕ) (x : ℕ → ℕ) (l : Line) (a n v : ℕ) → Fixed image m → Holds image pc l → row l.op pc (x l.rs1) (x l.rs2) l.imm ≡ Stores a n v → is_place a n ≡ true → shown (written m a (bytes_of n v)) ≡ shown m → May (in_runtime pc) a n → Reach 1 (Stored a n ∷ []) (record { pc = pc; x = x }) m (record { pc = pc + 4; x = x }) (written m a (bytes_of n v))
-stores image m pc x l a n v fixed h e ok same may =
+pub stores : (image m : Mem) (pc : ℕ) (x : ℕ → ℕ) (l : Line) (a n v : ℕ) → Fixed image m → Holds image pc l → row l.op pc (x l.rs1) (x l.rs2) l.imm ≡ Stores a n v → is_place a n ≡ true → shown (written m a (bytes_of n v)) ≡ shown m → May (in_runtime pc) a n → IsBesideFree (x 2) a n → Reach 1 (Stored a n ∷ []) (record { pc = pc; x = x }) m (record { pc = pc + 4; x = x }) (written m a (bytes_of n v))
+stores image m pc x l a n v fixed h e ok same may free =
     let c : Cpu = record { pc = pc; x = x } in
     let f : Fetches c m h.w l = fetches image m pc x l fixed h in
     one (Stored a n ∷ []) c (record { pc = pc + 4; x = x }) m (written m a (bytes_of n v))
     (stores_step c m h.w l a n v f e ok ∙ ap (λ q. record { went = On; cpu = record { pc = q; x = x }; mem = written m a (bytes_of n v) }) (next_pc image pc l h))
-    (touches_is c m h.w l f ∙ ap touch_of e) same (h.above, h.low) (may.allowed, tt) (may.due m (written m a (bytes_of n v)), tt) (back_of c m h.w l (pc + 4) f (no_back pc l m (pc + 4) (stores_on l.op pc (x l.rs1) (x l.rs2) l.imm a n v e)))
+    (touches_is c m h.w l f ∙ ap touch_of e) same (h.above, h.low) (may.allowed, tt) (may.due m (written m a (bytes_of n v)), tt) (free, tt) (back_of c m h.w l (pc + 4) f (no_back pc l m (pc + 4) (stores_on l.op pc (x l.rs1) (x l.rs2) l.imm a n v e)))
 
 -- ebreak ends the run
 pub halts : (image m : Mem) (pc : ℕ) (x : ℕ → ℕ) (l : Line) → Fixed image m → Holds image pc l → row l.op pc (x l.rs1) (x l.rs2) l.imm ≡ Stops → Stopped 1 [] (record { pc = pc; x = x }) m m
@@ -329,6 +330,7 @@ halts image m pc x l fixed h e =
       inside = (h.above, h.low);
       allowed = subst (AreAllowed (in_runtime pc)) (sym t) tt;
       due = subst (AreDue m (step_of (record { pc = pc; x = x }) m).mem) (sym t) tt;
+      free = subst (AreBesideFree (x 2)) (sym t) tt;
       grows = subst (λ (z : Stepped). Begins (shown m) (shown z.mem)) (sym s) (begins_same (shown m) (shown m) refl);
       returns = back_of (record { pc = pc; x = x }) m h.w l (step_of (record { pc = pc; x = x }) m).cpu.pc (fetches image m pc x l fixed h) (no_back pc l m (step_of (record { pc = pc; x = x }) m).cpu.pc (stops_on l.op pc (x l.rs1) (x l.rs2) l.imm e));
     }

@@ -292,7 +292,7 @@ enter_begun p u g l s i depth fuel ra first count registers ws m x f block pro a
     let ea : address p o ≡ sp = link_place p (record { activation = a; depth = depth + size }) l.at.first (omega arith) in
     let even : (depth + size) % 4 ≡ 0 = (let q = outer.even in let h = at.even in omega arith) in
     let take_ = puts p.image m pro.b w.z (with_immediate Addi 2 6 0) v2 fixed pro.taken refl refl in
-    let save = stores p.image m (pro.b + 4) z2 (storing Sw 2 1 0) sp 4 ra fixed pro.saved (ap (λ b. Stores b 4 (z2 1)) e0 ∙ ap (λ b. Stores sp 4 b) e1) (frame_place (depth + size) even) (output_written m sp 4 ra (omega arith) (omega arith)) (data_store (in_runtime (pro.b + 4)) sp 4 (omega arith) (omega arith)) in
+    let save = stores p.image m (pro.b + 4) z2 (storing Sw 2 1 0) sp 4 ra fixed pro.saved (ap (λ b. Stores b 4 (z2 1)) e0 ∙ ap (λ b. Stores sp 4 b) e1) (frame_place (depth + size) even) (output_written m sp 4 ra (omega arith) (omega arith)) (data_store (in_runtime (pro.b + 4)) sp 4 (omega arith) (omega arith)) (inr (inl (omega arith))) in
     let save' : Reach 1 (Stored (address p o) 4 ∷ []) (record { pc = pro.b + 4; x = z2 }) m (record { pc = pro.b + 4 + 4; x = z2 }) k = subst (λ q. Reach 1 (Stored q 4 ∷ []) (record { pc = pro.b + 4; x = z2 }) m (record { pc = pro.b + 4 + 4; x = z2 }) k) (sym ea) save in
     record {
       n = plus w.n (suc (suc (suc j.n)));

@@ -1,5 +1,5 @@
 -- The ends of runs, and lines that change the stack pointer.
-use Rattle.std.proofs.Common.{◌≡◌, ◌≢◌, ℕ, zero, ◌+◌, ◌*◌, ◌%◌, ◌^◌, ◌<◌, ◌≤◌, inr, Bool, true, false, cond, [], ◌∷◌, sym, ap, ◌∙◌, subst, refl, arith}
+use Rattle.std.proofs.Common.{◌≡◌, ◌≢◌, ℕ, zero, ◌+◌, ◌*◌, ◌%◌, ◌^◌, ◌<◌, ◌≤◌, inl, inr, Bool, true, false, cond, [], ◌∷◌, sym, ap, ◌∙◌, subst, refl, arith}
 use Rattle.std.specs.Prelude.{◌==◌, nat_lt, not}
 use Rattle.std.proofs.lemmas.Bool.Decides.{nat_tests}
 use Rattle.im_num.specs.Bytes.{bytes_of}
@@ -36,7 +36,7 @@ ends image m pc x rs imm fixed x0 less some place h k =
     let e : sum_of (x 0) imm ≡ imm = omega arith in
     let same : Fixed image m' = (λ a l u. written-above m imm a (bytes_of 4 (x rs)) (omega (arith, length-bytes_of 4 (x rs))) ∙ fixed a l u) in
     then_stops 1 1 (Stored imm 4 ∷ []) [] _ _ m m' m'
-    (stores image m pc x (storing Sw 0 rs imm) imm 4 (x rs) fixed h (ap (λ a. Stores a 4 (x rs)) e) place (output_told m imm 4 (x rs) less) (low_store (in_runtime pc) imm 4 some (omega arith)))
+    (stores image m pc x (storing Sw 0 rs imm) imm 4 (x rs) fixed h (ap (λ a. Stores a 4 (x rs)) e) place (output_told m imm 4 (x rs) less) (low_store (in_runtime pc) imm 4 some (omega arith)) (inl (omega arith)))
     (halts image m' (pc + 4) x (with_immediate Ebreak 0 0 0) same k refl)
 
 -- the words of the low page after such a store

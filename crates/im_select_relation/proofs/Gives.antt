@@ -25,11 +25,11 @@ use Rattle.im_select_relation.specs.Linking.{Linking, pointer_at, frame_of, limi
 use Rattle.im_select_relation.specs.Selected.{Stands}
 use Rattle.im_select_relation.specs.Law.{Touches, Nothing, Reading, Writing}
 use Rattle.im_select_relation.proofs.Registers.{RegsMean, means_at, two_ways, register_same, register_other, set_home}
-use Rattle.im_select_relation.proofs.Mapped.{mark}
+use Rattle.im_select_relation.proofs.Mapped.{mark, marks}
 use Rattle.im_select_relation.proofs.Checks.{ReadOf, WriteOf}
 use Rattle.im_select_relation.proofs.Cells.{Room, room, back_word, write_memory, write_fixed, write_words, heard_load, heard_store}
 use Rattle.im_select_relation.proofs.Places.{Ready}
-use Rattle.im_select_relation.proofs.Relation.{Rel, Advanced, After, checked_after, moved_rel, chain_kept, links_kept}
+use Rattle.im_select_relation.proofs.Relation.{Rel, Advanced, After, checked_after, beside_free, moved_rel, chain_kept, links_kept}
 
 -- steps that put a word into a register; they may use x5 and x6
 pub record Gave (m : Mem) (pc : ℕ) (x : ℕ → ℕ) (to w next words : ℕ) : Type 0 where
@@ -167,7 +167,7 @@ writes_after p u g at0 s c m r from w base imm next k site o rest no5 size b h c
     let at : sum_of (b.y base) imm ≡ address p ob + i = b.sum ∙ found_at p l.at k w rm q.lands in
     let k' : Mem = written m (address p ob + i) (bytes_of (kind_size k) (b.y from)) in
     let top : address p ob + i + kind_size k ≤ 3145728 = (let z = rm.high in omega arith) in
-    let step = stores p.image m next b.y (storing (store_op k) base from imm) (address p ob + i) (kind_size k) (b.y from) r.fixed h (store_row k next (b.y base) (b.y from) imm ∙ ap (λ a. Stores a (kind_size k) (b.y from)) at) rm.place (output_written m (address p ob + i) (kind_size k) (b.y from) rm.low top) (data_store (in_runtime next) (address p ob + i) (kind_size k) rm.low top) in
+    let step = stores p.image m next b.y (storing (store_op k) base from imm) (address p ob + i) (kind_size k) (b.y from) r.fixed h (store_row k next (b.y base) (b.y from) imm ∙ ap (λ a. Stores a (kind_size k) (b.y from)) at) rm.place (output_written m (address p ob + i) (kind_size k) (b.y from) rm.low top) (data_store (in_runtime next) (address p ob + i) (kind_size k) rm.low top) (beside_free p s.store.shape g.stack (mark s.frame) (marks s.callers) (b.y 2) ob i k r.mapped r.ordered b.regs.stack cell) in
     let t : Touches p (Writes site s.frame.active ob i ∷ []) (Stored (address p ob + i) (kind_size k) ∷ []) = subst (λ z. Touches p (Writes site s.frame.active ob i ∷ []) (Stored (address p ob + i) z ∷ [])) size (Writing site s.frame.active ob i [] [] Nothing) in
     let value : Means p q.taken (back_word k (b.y from)) = means_at p q.taken q.taken (back_word k (c.x from)) _ refl (ap (back_word k) (b.kept from no5)) q.value in
     subst (λ (z : Store). Advanced p u g s.fuel 3 c m (record s { frame = with_rest s.frame rest; store = z }) (Writes site s.frame.active ob i ∷ [])) (sym q.write.is)

@@ -12,7 +12,7 @@ use Rattle.im_rv.specs.Steps.{Cpu}
 use Rattle.im_rv_reach.specs.Touches.{Touch, heard}
 use Rattle.im_rv_reach.specs.Orderly.{IsOrderly}
 use Rattle.im_rv_reach.specs.Shown.{shown, left}
-use Rattle.im_rv_reach.specs.Plain.{IsBehindCall}
+use Rattle.im_rv_reach.specs.Plain.{IsBesideFree, IsBehindCall}
 use Rattle.im_rv_reach.specs.Reach.{Reach, Stopped}
 use Rattle.im_rv_reach.specs.Instructions.{Fixed}
 use Rattle.im_rv_reach.specs.Routines.{Words}
@@ -27,13 +27,24 @@ use Rattle.im_select_relation.specs.Linking.{Linking, pointer_at, frame_of, limi
 use Rattle.im_select_relation.specs.Selected.{Stands}
 use Rattle.im_select_relation.specs.Law.{Touches, ShowsStatics}
 use Rattle.im_select_relation.proofs.Registers.{RegsMean}
-use Rattle.im_select_relation.proofs.Mapped.{Mark, mark, marks, Mapped, Cell, Under, base_frame}
+use Rattle.im_select_relation.proofs.Mapped.{Mark, mark, marks, Mapped, Cell, Under, under_more, older_beside, base_frame}
 use Rattle.im_select_relation.proofs.Cells.{Memory}
 
 -- frames lie one below the other
 abbrev pub Ordered : ℕ → List Mark → Type 0
 Ordered stack [] = Unit {0}
 Ordered stack (w ∷ ws) = (w.depth ≤ stack) × (w.depth % 4 ≡ 0) × Under w.depth w.activation ws × Ordered stack ws
+
+-- a cell of a live object is none of the free stack below the newest frame
+pub beside_free : (p : Linking) (shape : Object → Option Shape) (stack : ℕ) (w : Mark) (ws : List Mark) (pointer : ℕ) (o : Object) (i : ℕ) (k : Kind) → Mapped p shape (w ∷ ws) → Ordered stack (w ∷ ws) → pointer ≡ pointer_at w.depth → Cell p shape o i k → IsBesideFree pointer (address p o + i) (kind_size k)
+beside_free p shape stack w ws pointer o i k mapped ordered sp c =
+    let lies = mapped.lies o c.sh c.live in
+    let inside = lies.cells.inside i k c.cell in
+    let under : Under w.depth (suc w.activation) (w ∷ ws) = (omega arith, omega arith, under_more w.depth w.depth w.activation (suc w.activation) ws (omega arith) (omega arith) ordered.2) in
+    elim (older_beside p o c.sh (w ∷ ws) w.depth (suc w.activation) under lies) [
+      | inl h ↦ inl (omega arith)
+      | inr h ↦ inr (inl (omega arith))
+    ]
 
 abbrev pub link_of : Mark → Object
 link_of w = record { activation = w.activation; depth = w.depth; name = Link }
