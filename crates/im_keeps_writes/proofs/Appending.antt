@@ -38,7 +38,7 @@ low_out a l = grind (arith, nat_tests)
 far_out : (a : ℕ) → 4194304 ≤ a → is_buffer a ≡ false
 far_out a l = grind (arith, nat_tests)
 
-buffer_low : (a : ℕ) → is_buffer a ≡ true → a < 384
+pub buffer_low : (a : ℕ) → is_buffer a ≡ true → a < 384
 buffer_low a h = grind (arith, nat_tests)
 
 itself : (n : ℕ) → nat_eq n n ≡ true

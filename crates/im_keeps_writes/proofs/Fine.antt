@@ -1,5 +1,6 @@
--- What a state's next step keeps: each byte that may not change, and of the output's area each but the one behind what is shown.
-use Rattle.std.proofs.Common.{◌≡◌, ℕ, ◌+◌, ◌≤◌, ◌⊎◌, inl, inr, false, Option, Some, None, length, refl}
+-- What a state's next step keeps: each byte that may not change, of the output's area each but the one behind what is shown,
+-- and each of the stack below x2.
+use Rattle.std.proofs.Common.{◌≡◌, ℕ, ◌+◌, ◌<◌, ◌≤◌, ◌⊎◌, inl, inr, false, Option, Some, None, length, refl}
 use Rattle.im_rv.specs.Effects.{writes_by}
 use Rattle.im_rv_reach.specs.Shown.{shown}
 use Rattle.im_image.specs.Contents.{ImageValue}
@@ -9,6 +10,7 @@ use Rattle.im_keeps_writes.specs.Writes.{may_change}
 pub record IsFine (image : ImageValue) (s : State) : Type 0 where
   pub none : (a : ℕ) → may_change image a ≡ false → writes_by (effect_at s) a ≡ None
   pub next : (a v : ℕ) → 4194304 ≤ a → writes_by (effect_at s) a ≡ Some v → a ≡ 4194304 + length (shown s.mem)
+  pub free : (a : ℕ) → 2097152 ≤ a → a < 3145728 → a < s.cpu.x 2 → writes_by (effect_at s) a ≡ None
 
 pub some_or_none : (z : Option ℕ) → (z ≡ None) ⊎ ((w : ℕ) × (z ≡ Some w))
 some_or_none None = inl refl

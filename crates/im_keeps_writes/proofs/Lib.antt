@@ -5,6 +5,7 @@ mod Fine
 mod Within
 mod Idle
 mod Appending
+mod Free
 mod Moments
 mod Built
 mod Bounded

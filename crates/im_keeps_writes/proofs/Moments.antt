@@ -22,10 +22,11 @@ use Rattle.im_keeps.specs.Keeps.{IsInput}
 use Rattle.im_keeps_run.specs.Laws.{run_of}
 use Rattle.im_keeps_run.specs.Written.{IsWritten, code_end, IsLoaded, IsBegun}
 use Rattle.im_keeps_run.specs.WrittenLaws.{WrittenLaw}
-use Rattle.im_keeps_writes.specs.Writes.{is_word, is_setting, is_in, is_stack, is_output, may_change, output_end, Writes}
+use Rattle.im_keeps_writes.specs.Writes.{is_word, is_setting, is_in, is_stack, is_output, may_change, IsFreeByte, output_end, Writes}
 use Rattle.im_keeps_writes.proofs.Fine.{IsFine}
 use Rattle.im_keeps_writes.proofs.Idle.{sound_run, agrees_at, byte_stays, live_stays, torn_keeps}
 use Rattle.im_keeps_writes.proofs.Appending.{like_appends}
+use Rattle.im_keeps_writes.proofs.Free.{like_spares}
 
 -- what may not change is no byte of a buffer
 no_buffer : (v w x y z : Bool) → (v || w || x || y || z) ≡ false → w ≡ false
@@ -120,6 +121,11 @@ input_stays image is a low high =
     none_of (is_word a) (is_buffer a) (is_in image.objects a) (is_stack image a) (is_output image a) (no_word a (omega arith)) (not_in_buffer a (omega arith))
     (above_objects _ 1048576 image.objects a is.objects (omega arith)) (behind_stack image a low) (before_output image a high)
 
+-- of the stack
+
+below_end : (a : ℕ) → nat_lt a 3145728 ≡ true → a < 3145728
+below_end a h = grind (arith, nat_tests)
+
 module _ (law : WrittenLaw) (image : ImageValue) (input : List ℕ) (written : IsWritten image) (fits : IsInput input) (safe : RunsSafely (run_of image input) (code_end image)) (shows : ShowsSafely (run_of image input)) (fine : (t : ℕ) → IsFine image (run_of image input t)) where
   abbrev r : ℕ → State
   r = run_of image input
@@ -166,6 +172,17 @@ module _ (law : WrittenLaw) (image : ImageValue) (input : List ℕ) (written : I
       byte_stays (memory_of image input) (code_end image) replayable periods n junk a on (λ t g.
       like_appends image written.form r (code_end image) (sound_run (memory_of image input) (code_end image) replayable) shows fine t x.mem g.tracks.mixed x.cpu g.regs (agrees_at (memory_of image input) (code_end image) replayable t x g) a far other)
 
+  free_stays : (periods : List Period) (n junk a : ℕ) → (within periods n junk (memory_of image input)).went ≡ On → IsFreeByte image (within periods n junk (memory_of image input)) a
+      → (step_of (within periods n junk (memory_of image input)).cpu (within periods n junk (memory_of image input)).mem).mem a ≡ (within periods n junk (memory_of image input)).mem a
+  free_stays periods n junk a on f =
+      let x : Moment = within periods n junk (memory_of image input) in
+      let few : image.stack ≤ 1048576 = leb-true _ _ (and_parts _ _ written.is_image.stack).1 in
+      let stands = and_parts _ _ f.0 in
+      let low : 3145728 - image.stack ≤ a = leb-true _ _ stands.0 in
+      let high : a < 3145728 = below_end a stands.1 in
+      byte_stays (memory_of image input) (code_end image) replayable periods n junk a on (λ t g.
+      like_spares image r (code_end image) (sound_run (memory_of image input) (code_end image) replayable) fine t x.cpu x.mem g.regs (agrees_at (memory_of image input) (code_end image) replayable t x g) a (omega arith) high f.1)
+
   pub all : Writes image input
   all = record {
     same = same;
@@ -179,5 +196,9 @@ module _ (law : WrittenLaw) (image : ImageValue) (input : List ℕ) (written : I
     appends = λ periods n junk on mask a far other.
         let x : Moment = within periods n junk (memory_of image input) in
         let e = end_stays periods n junk a on far other in
+        (e, torn_keeps mask x.cpu x.mem a e);
+    free = λ periods n junk on mask a f.
+        let x : Moment = within periods n junk (memory_of image input) in
+        let e = free_stays periods n junk a on f in
         (e, torn_keeps mask x.cpu x.mem a e);
   }

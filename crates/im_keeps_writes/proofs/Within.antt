@@ -1,4 +1,4 @@
--- The run that never loses power writes no byte that may not change, and output behind what is shown alone.
+-- The run that never loses power writes no byte that may not change, output behind what is shown alone, and no stack below x2.
 use Rattle.std.proofs.Common.{◌≡◌, ◌≢◌, ℕ, zero, suc, ◌+◌, ◌<◌, ◌⊎◌, inl, inr, true, false, List, [], ◌∷◌, Some, None, length, refl, sym, ap, ◌∙◌, subst, arith, ◌≤◌}
 use Rattle.std.specs.Prelude.{unwrap_or}
 use Rattle.im_mem.specs.Memory.{Mem, little}
@@ -11,7 +11,7 @@ use Rattle.im_rv.specs.Steps.{Stepped}
 use Rattle.im_rv.specs.Runs.{step_of, go_on, runs}
 use Rattle.im_rv_reach.specs.Touches.{Stored, touch_of, touches, touched}
 use Rattle.im_rv_reach.specs.Orderly.{Anything}
-use Rattle.im_rv_reach.specs.Plain.{IsDue, AreDue, IsPlain}
+use Rattle.im_rv_reach.specs.Plain.{IsDue, AreDue, IsBesideFree, AreBesideFree, IsPlain}
 use Rattle.im_rv_reach.specs.Shown.{shown}
 use Rattle.im_image.specs.Contents.{ImageValue}
 use Rattle.im_device.specs.Load.{memory_of}
@@ -103,11 +103,17 @@ module _ (keeps : SelectKeeps) (written : WrittenLaw) (image : ImageValue) (inpu
     own = subst (AllTouched (IsOwn p u g)) in_turn (all_own p u g (touched j (first_cpu image input) p.image)
         (all_heard p u g run _ follows.touches (held p u g well within.linked (first_cpu image input).x begun.zero_reg begun.sp n o run k)))
 
+    plain : (t : ℕ) → t < j → IsPlain (r t).cpu (r t).mem
+    plain t lt = subst (λ (s : State). IsPlain s.cpu s.mem) (at t) (follows.plain t lt)
+
+    stored : (t b m v : ℕ) → effect_at (r t) ≡ Stores b m v → touches (r t).cpu (r t).mem ≡ Stored b m ∷ []
+    stored t b m v e = touches_same (r t).cpu (r t).mem ∙ ap touch_of e
+
     due : (t b m v : ℕ) → t < j → effect_at (r t) ≡ Stores b m v → IsDue (r t).mem (step_of (r t).cpu (r t).mem).mem b m
-    due t b m v lt e =
-        let same : touches (r t).cpu (r t).mem ≡ Stored b m ∷ [] = touches_same (r t).cpu (r t).mem ∙ ap touch_of e in
-        let plain : IsPlain (r t).cpu (r t).mem = subst (λ (s : State). IsPlain s.cpu s.mem) (at t) (follows.plain t lt) in
-        (subst (AreDue (r t).mem (step_of (r t).cpu (r t).mem).mem) same plain.due).0
+    due t b m v lt e = (subst (AreDue (r t).mem (step_of (r t).cpu (r t).mem).mem) (stored t b m v e) (plain t lt).due).0
+
+    beside : (t b m v : ℕ) → t < j → effect_at (r t) ≡ Stores b m v → IsBesideFree ((r t).cpu.x 2) b m
+    beside t b m v lt e = (subst (AreBesideFree ((r t).cpu.x 2)) (stored t b m v e) (plain t lt).free).0
 
     -- OUT_CAP stays
     cap_byte : (t i : ℕ) → t < j → 16 ≤ i → i < 20 → (r (suc t)).mem i ≡ (r t).mem i
@@ -153,8 +159,22 @@ module _ (keeps : SelectKeeps) (written : WrittenLaw) (image : ImageValue) (inpu
         let here = next.next in
         omega arith
 
+    free_before : (t a : ℕ) → t < j → 2097152 ≤ a → a < 3145728 → a < (r t).cpu.x 2 → writes r t a ≡ None
+    free_before t a lt low high below = elim (some_or_none (writes r t a)) [
+      | inl none ↦ none
+      | inr x ↦ (
+          let s = stores_at (effect_at (r t)) a x.0 x.1 in
+          let from = s.low in
+          let to = s.high in
+          absurd (elim (beside t s.b s.n s.v lt s.is) [
+            | inl under ↦ omega arith
+            | inr (inl above) ↦ omega arith
+            | inr (inr over) ↦ omega arith
+          ]))
+    ]
+
     fine_before : (t : ℕ) → t < j → IsFine image (r t)
-    fine_before t lt = record { none = λ a out. none_before t a lt out; next = λ a v far w. next_before t a v lt far w }
+    fine_before t lt = record { none = λ a out. none_before t a lt out; next = λ a v far w. next_before t a v lt far w; free = λ a low high below. free_before t a lt low high below }
 
     halted : (runs j (first_cpu image input) p.image).went ≡ Halted → EndsWithin r 0 j
     halted h =
