@@ -1,5 +1,5 @@
 -- What holds up to times as late as one likes holds for ever.
-use Rattle.std.proofs.Common.{◌<◌, ℕ, ◌+◌, List, arith}
+use Rattle.std.proofs.Common.{◌<◌, ℕ, ◌+◌, inl, inr, List, arith}
 use Rattle.im_ckpt.specs.Runs.{State}
 use Rattle.im_keeps_until.specs.Laws.{Owes, OwesAlways}
 
@@ -11,8 +11,14 @@ always words code run h = record {
     writes_plain = λ t a. (h t).owes.safely.writes_plain t a (h t).later;
     reads_plain = λ t a. (h t).owes.safely.reads_plain t a (h t).later;
     cuts = λ t. (h t).owes.safely.cuts t (h t).later;
-    needs = λ t k i cut n. (h n.time).owes.safely.needs t k i n.time (h n.time).later cut (record { later = n.later; used = n.used; unset = n.unset });
-    needs_first = λ i n. (h n.time).owes.safely.needs_first i n.time (h n.time).later (record { later = n.later; used = n.used; unset = n.unset });
+    needs = λ t k i cut needed. elim needed [
+      | inl n ↦ (h n.time).owes.safely.needs t k i n.time (h n.time).later cut (record { later = n.later; used = n.used; unset = n.unset })
+      | inr two ↦ (let a = cut.above in (omega arith, (λ q. omega arith), (λ q. omega arith)))
+    ];
+    needs_first = λ i needed. elim needed [
+      | inl n ↦ (h n.time).owes.safely.needs_first i n.time (h n.time).later (record { later = n.later; used = n.used; unset = n.unset })
+      | inr two ↦ ((λ q. omega arith), (λ q. omega arith), omega arith)
+    ];
     no_war = λ t u a le. (h u).owes.safely.no_war t u a le (h u).later;
   };
   shows = record {

@@ -53,7 +53,8 @@ pub record Stands_at (run : ℕ → State) (x : Moment Cpu) : Type 0 where
   pub same_index : index_of x.mem ≡ index_of (run s).mem
 
 -- How it is with the power on, n instructions after it came in the section that began at s: recovery runs,
--- or the run is n - 33 instructions behind the place where that section resumes, with the registers that are needed there; or it is over.
+-- or the run is n - 33 instructions behind the place where that section resumes, with the registers that are needed there,
+-- the stack pointer x2 always; or it is over.
 pub data Runs (run : ℕ → State) (s n : ℕ) (x : Moment Cpu) : Type 0 where
   Recovers : (junk : ℕ) → n ≤ 33 → CanResume x.mem → x.regs ≡ waking n junk x.mem → x.over ≡ false → Runs run s n x
   Executes : (t : ℕ) → t + 33 ≡ resume s + n → x.regs.pc ≡ (run t).cpu.pc → ((i : ℕ) → Needed run t i → x.regs.x i ≡ (run t).cpu.x i) → flips (flip run) t ≡ x.commits → x.over ≡ false → Runs run s n x

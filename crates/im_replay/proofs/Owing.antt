@@ -235,9 +235,10 @@ module _ (run : ℕ → State) (code : ℕ) (o : IsOwed run code) where
 
   -- what is needed is used now, or needed next
   now_or_next : (t i : ℕ) → Needed run t i → (uses (run t) i ≡ true) ⊎ Needed run (suc t) i
-  now_or_next t i n = elim (order_of t n.time n.later) [
+  now_or_next t i (inr two) = inr (inr two)
+  now_or_next t i (inl n) = elim (order_of t n.time n.later) [
     | inl e ↦ inl (subst (λ z. uses (run z) i ≡ true) (sym e) n.used)
-    | inr l ↦ inr (record { time = n.time; later = l; used = n.used; unset = λ u a b. n.unset u (omega arith) b })
+    | inr l ↦ inr (inl (record { time = n.time; later = l; used = n.used; unset = λ u a b. n.unset u (omega arith) b }))
   ]
     where
       order_of : (t u : ℕ) → t ≤ u → (t ≡ u) ⊎ (suc t ≤ u)

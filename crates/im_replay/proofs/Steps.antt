@@ -41,11 +41,12 @@ module _ (run : ℕ → State) (code : ℕ) (u : IsSound run code) where
 
   -- what is used now is needed now
   pub needs_used : (t i : ℕ) → uses (run t) i ≡ true → Needed run t i
-  needs_used t i h = record { time = t; later = omega arith; used = h; unset = λ v a b. absurd (omega arith) }
+  needs_used t i h = inl (record { time = t; later = omega arith; used = h; unset = λ v a b. absurd (omega arith) })
 
   -- what is needed next and not set now is needed now
   pub needs_next : (t i : ℕ) → sets (run t) i ≡ false → Needed run (suc t) i → Needed run t i
-  needs_next t i h n = record {
+  needs_next t i h (inr two) = inr two
+  needs_next t i h (inl n) = inl (record {
     time = n.time;
     later = (let l = n.later in omega arith);
     used = n.used;
@@ -53,7 +54,7 @@ module _ (run : ℕ → State) (code : ℕ) (u : IsSound run code) where
       | inl e ↦ subst (λ z. sets (run z) i ≡ false) e h
       | inr l ↦ n.unset v l b
     ];
-  }
+  })
     where
       now_or_later : (t v : ℕ) → t ≤ v → (t ≡ v) ⊎ (suc t ≤ v)
       now_or_later t v l = grind arith

@@ -15,6 +15,7 @@ pub record Used (run : ℕ → State) (t i : ℕ) : Type 0 where
   pub used : uses (run time) i ≡ true
   pub unset : (u : ℕ) → t ≤ u → u < time → sets (run u) i ≡ false
 
--- so does it; or the register is the stack pointer x2, above which the frames lie whether it is used again or not
+-- a register that the run needs from time t on: one that it uses so, or the stack pointer x2, above which the frames lie
+-- whether it is used again or not
 abbrev pub Needed : (ℕ → State) → ℕ → ℕ → Type 0
 Needed run t i = Used run t i ⊎ (i ≡ 2)

@@ -33,7 +33,8 @@ pub record StandsAt (run : ℕ → State) (m : Mem) (commits : ℕ) : Type 0 whe
   pub same_index : index_of m ≡ index_of (run s).mem
 
 -- How it is with the power on, n instructions after it came in the section that began at s: recovery runs,
--- or the run is n - 33 instructions behind the place where that section resumes, with the registers that are needed there; or it is over.
+-- or the run is n - 33 instructions behind the place where that section resumes, with the registers that are needed there,
+-- the stack pointer x2 always; or it is over.
 pub data Goes (run : ℕ → State) (s n : ℕ) (x : Moment) : Type 0 where
   Recovers : (junk : ℕ) → n ≤ 33 → x.cpu ≡ (resuming n junk x.mem).cpu → x.went ≡ On → Goes run s n x
   Executes : (t : ℕ) → t + 33 ≡ resume s + n → x.cpu.pc ≡ (run t).cpu.pc → ((i : ℕ) → Needed run t i → x.cpu.x i ≡ (run t).cpu.x i) → flips (flip run) t ≡ x.commits → x.went ≡ On → Goes run s n x

@@ -11,7 +11,8 @@ abbrev pub resume : ℕ → ℕ
 resume zero = zero
 resume (suc t) = suc (suc t)
 
--- the live buffer holds the place where the section that began at s resumes, and the registers that are needed there
+-- the live buffer holds the place where the section that began at s resumes, and the registers that are needed there,
+-- the stack pointer x2 always
 pub record IsLive (run : ℕ → State) (s : ℕ) (m : Mem) : Type 0 where
   pub place : little m (buffer (index_of (run s).mem)) 4 ≡ (run (resume s)).cpu.pc
   pub regs : (i : ℕ) → Needed run (resume s) i → 0 < i → little m (buffer (index_of (run s).mem) + 4 * i) 4 ≡ (run (resume s)).cpu.x i

@@ -20,7 +20,7 @@ use Rattle.im_rv.specs.Effects.{decoded_word, effect, rd_of, rs1_of, rs2_of, wri
 use Rattle.im_device.specs.Run.{index_of}
 use Rattle.im_ckpt.specs.Runs.{State, IsRun, flip, writes, reads, line_at, effect_at, sets}
 use Rattle.im_ckpt.specs.Buffers.{is_buffer, is_fixed, idle, slot, saves_by}
-use Rattle.im_replay.specs.Needed.{uses, Needed}
+use Rattle.im_replay.specs.Needed.{uses, Used, Needed}
 use Rattle.im_ckpt.specs.Recovery.{return_line}
 use Rattle.im_replay.specs.Sections.{IsLive}
 use Rattle.im_ckpt.proofs.Rungs.{entry_line, ladder_reg, shift_back, flip_back, ladder_store, store_back, reg_named}
@@ -470,9 +470,9 @@ module _ (run : ℕ → State) (steps : IsRun run) (image : CounterImage (run 0)
       let l = call_at t0 (at t0).fine e in
       ap (λ z. sets_by (effect_at (run t0)) (rd_of z) 3) l ∙ ap (λ z. sets_by z 3 3) (effect_is run 5064 based t0 call_line l)
 
-  -- outside the routine no register but x0 and x5 is needed
-  pub outside_needs : (u i : ℕ) → is_runtime (run u).cpu.pc ≡ false → Needed run u i → (i ≡ 0) ⊎ (i ≡ 5)
-  outside_needs u i out n = elim (use_at n.time i (at n.time).fine (at n.time).spot n.used) [
+  -- outside the routine no register but x0 and x5 is used again
+  outside_uses : (u i : ℕ) → is_runtime (run u).cpu.pc ≡ false → Used run u i → (i ≡ 0) ⊎ (i ≡ 5)
+  outside_uses u i out n = elim (use_at n.time i (at n.time).fine (at n.time).spot n.used) [
     | Nothing q ↦ inl q
     | Five q ↦ inr q
     | Base t0 e f q a b ↦ elim (order (suc t0) u) [
@@ -533,14 +533,22 @@ module _ (run : ℕ → State) (steps : IsRun run) (image : CounterImage (run 0)
   ]
 
   needs : (t m i : ℕ) → IsCut run t m → Needed run (t + m + 8) i → (i ≤ m) × (i ≢ 3) × (i ≢ 4)
-  needs t m i c n =
+  needs t m i c (inr two) = let a = c.above in (omega arith, omega arith, omega arith)
+  needs t m i c (inl n) =
       let q = cut_is t m c in
       let five = q.0 in
       let x = comes_back run 5064 based t m c (call_step t (at t).fine q.1).0 in
-      elim (outside_needs (t + m + 8) i (ap is_runtime x.1 ∙ c.back) n) [
+      elim (outside_uses (t + m + 8) i (ap is_runtime x.1 ∙ c.back) n) [
         | inl z ↦ (omega arith, omega arith, omega arith)
         | inr z ↦ (omega arith, omega arith, omega arith)
       ]
+
+  pub first_needs : (i : ℕ) → Needed run 0 i → (i ≢ 3) × (i ≢ 4) × (i < 32)
+  first_needs i (inr two) = (omega arith, omega arith, omega arith)
+  first_needs i (inl n) = elim (outside_uses 0 i (ap is_runtime first_place) n) [
+    | inl z ↦ (omega arith, omega arith, omega arith)
+    | inr z ↦ (omega arith, omega arith, omega arith)
+  ]
 
   -- the counter is written first in its section, and read behind that
   no_war : (t u a : ℕ) → t ≤ u → start (flip run) t ≡ start (flip run) u → is_runtime (run t).cpu.pc ≡ false → is_runtime (run u).cpu.pc ≡ false → reads run t a ≡ true → wrote (flip run) (writes run) t a ≡ false → writes run u a ≡ None
@@ -578,7 +586,7 @@ module _ (run : ℕ → State) (steps : IsRun run) (image : CounterImage (run 0)
     words = λ t. (at t).fine.words;
     zero_reg = λ t. (at t).fine.zero_reg;
     even_first = ap (λ z. z % 2) first_place;
-    needs_first = λ i n. elim (outside_needs 0 i (ap is_runtime first_place) n) [ inl z ↦ (omega arith, omega arith, omega arith) | inr z ↦ (omega arith, omega arith, omega arith) ];
+    needs_first = first_needs;
     begins = live;
   }
     where

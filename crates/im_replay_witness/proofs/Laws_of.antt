@@ -1,5 +1,5 @@
 -- Both images are compiled ones.
-use Rattle.std.proofs.Common.{◌≡◌, ◌≢◌, ℕ, ◌%◌, ◌<◌, inl, inr, List, [], ◌∷◌, sym, ap, ◌∙◌, subst, arith}
+use Rattle.std.proofs.Common.{◌≡◌, ◌≢◌, ℕ, ◌%◌, ◌<◌, List, [], ◌∷◌, sym, ap, ◌∙◌, subst, arith}
 use Rattle.im_mem.specs.Memory.{Mem, little}
 use Rattle.im_rv.specs.Decode.{Line}
 use Rattle.im_device.specs.Run.{boot}
@@ -15,8 +15,8 @@ use Rattle.im_replay.proofs.Device.{replay_law, output_law}
 use Rattle.im_replay_witness.specs.Loop.{call_line, back_line, loop_memory, LoopLaw}
 use Rattle.im_replay_witness.specs.Counter.{read_line, add_line, call_line as counter_call, write_line, back_line as counter_back, counter_memory, CounterLaw, CounterReplaysLaw, CounterShowsLaw}
 use Rattle.im_replay_witness.proofs.Loading.{recovery_there, checkpoint_there, own_there, bytes_there, index_there, start_there}
-use Rattle.im_replay_witness.proofs.Loop.{LoopImage, owed as loop_owed, outside_needs as loop_needs}
-use Rattle.im_replay_witness.proofs.Counter.{CounterImage, owed as counter_owed, outside_needs as counter_needs}
+use Rattle.im_replay_witness.proofs.Loop.{LoopImage, owed as loop_owed, first_needs as loop_needs}
+use Rattle.im_replay_witness.proofs.Counter.{CounterImage, owed as counter_owed, first_needs as counter_needs}
 use Rattle.im_replay_witness.proofs.Silence.{silent}
 
 loop_image : LoopImage loop_memory
@@ -36,7 +36,7 @@ loop_law =
     let place : (run 0).cpu.pc ≡ 5044 = first_place m loop_can ∙ ap (λ z. little m (buffer z) 4) loop_image.index ∙ loop_image.start in
     let zero = zeros m loop_can 0 in
     let small = words m loop_can 0 in
-    let needs : (i : ℕ) → Needed run 0 i → (i ≢ 3) × (i ≢ 4) × (i < 32) = λ i n. (let q : i ≡ 0 = loop_needs run (is_run m) image place zero small 0 i (ap is_runtime place) n in (omega arith, omega arith, omega arith)) in
+    let needs : (i : ℕ) → Needed run 0 i → (i ≢ 3) × (i ≢ 4) × (i < 32) = loop_needs run (is_run m) image place zero small in
     let o = loop_owed run (is_run m) image place zero small (subst (λ (k : Mem). IsLive run 0 k) (sym (first_mem m loop_can)) (first_live run m (cpu_after 33 (boot 0) m) (first_state m loop_can) (recovered m 0 loop_can) needs loop_image.small)) in
     record {
       small = loop_image.small;
@@ -75,7 +75,7 @@ counter_law =
     let run = uninterrupted m in
     let zero = zeros m counter_can 0 in
     let small = words m counter_can 0 in
-    let needs : (i : ℕ) → Needed run 0 i → (i ≢ 3) × (i ≢ 4) × (i < 32) = λ i n. elim (counter_needs run (is_run m) begun.image begun.place zero small 0 i (ap is_runtime begun.place) n) [ inl z ↦ (omega arith, omega arith, omega arith) | inr z ↦ (omega arith, omega arith, omega arith) ] in
+    let needs : (i : ℕ) → Needed run 0 i → (i ≢ 3) × (i ≢ 4) × (i < 32) = counter_needs run (is_run m) begun.image begun.place zero small in
     let o = counter_owed run (is_run m) begun.image begun.place zero small (subst (λ (k : Mem). IsLive run 0 k) (sym (first_mem m counter_can)) (first_live run m (cpu_after 33 (boot 0) m) (first_state m counter_can) (recovered m 0 counter_can) needs counter_image.small)) in
     record {
       small = counter_image.small;

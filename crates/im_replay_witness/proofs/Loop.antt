@@ -19,7 +19,7 @@ use Rattle.im_rv.specs.Effects.{decoded_word, effect, rd_of, rs1_of, rs2_of, wri
 use Rattle.im_device.specs.Run.{index_of}
 use Rattle.im_ckpt.specs.Runs.{State, IsRun, line_at, effect_at, sets}
 use Rattle.im_ckpt.specs.Buffers.{idle, slot, saves_by}
-use Rattle.im_replay.specs.Needed.{uses, Needed}
+use Rattle.im_replay.specs.Needed.{uses, Used, Needed}
 use Rattle.im_ckpt.specs.Recovery.{return_line}
 use Rattle.im_replay.specs.Sections.{IsLive}
 use Rattle.im_ckpt.proofs.Rungs.{entry_line, ladder_reg, shift_back, flip_back, ladder_store, store_back, reg_named}
@@ -354,9 +354,9 @@ module _ (run : ℕ → State) (steps : IsRun run) (image : LoopImage (run 0).me
       let l = call_at t0 (at t0).fine e in
       ap (λ z. sets_by (effect_at (run t0)) (rd_of z) 3) l ∙ ap (λ z. sets_by z 3 3) (effect_is run 5052 based t0 call_line l)
 
-  -- outside the routine no register but x0 is needed
-  pub outside_needs : (u i : ℕ) → is_runtime (run u).cpu.pc ≡ false → Needed run u i → i ≡ 0
-  outside_needs u i out n = elim (use_at n.time i (at n.time).fine (at n.time).spot n.used) [
+  -- outside the routine no register but x0 is used again
+  outside_uses : (u i : ℕ) → is_runtime (run u).cpu.pc ≡ false → Used run u i → i ≡ 0
+  outside_uses u i out n = elim (use_at n.time i (at n.time).fine (at n.time).spot n.used) [
     | Nothing q ↦ q
     | Base t0 e f q a b ↦ elim (order (suc t0) u) [
       | inl past ↦ absurd (not_inside u t0 e f (omega arith) (let l = n.later in omega arith) out)
@@ -394,11 +394,16 @@ module _ (run : ℕ → State) (steps : IsRun run) (image : LoopImage (run 0).me
   ]
 
   needs : (t m i : ℕ) → IsCut run t m → Needed run (t + m + 8) i → (i ≤ m) × (i ≢ 3) × (i ≢ 4)
-  needs t m i c n =
+  needs t m i c (inr two) = let a = c.above in (omega arith, omega arith, omega arith)
+  needs t m i c (inl n) =
       let q = cut_is t m c in
       let x = comes_back run 5052 based t m c (call_step t (at t).fine q.1).0 in
-      let zero_is : i ≡ 0 = outside_needs (t + m + 8) i (ap is_runtime x.1 ∙ c.back) n in
+      let zero_is : i ≡ 0 = outside_uses (t + m + 8) i (ap is_runtime x.1 ∙ c.back) n in
       (omega arith, omega arith, omega arith)
+
+  pub first_needs : (i : ℕ) → Needed run 0 i → (i ≢ 3) × (i ≢ 4) × (i < 32)
+  first_needs i (inr two) = (omega arith, omega arith, omega arith)
+  first_needs i (inl n) = let zero_is : i ≡ 0 = outside_uses 0 i (ap is_runtime first_place) n in (omega arith, omega arith, omega arith)
 
   pub owed : IsLive run 0 (run 0).mem → IsOwed run 5052
   owed live = record {
@@ -417,6 +422,6 @@ module _ (run : ℕ → State) (steps : IsRun run) (image : LoopImage (run 0).me
     words = λ t. (at t).fine.words;
     zero_reg = λ t. (at t).fine.zero_reg;
     even_first = ap (λ z. z % 2) first_place;
-    needs_first = λ i n. (let q : i ≡ 0 = outside_needs 0 i (ap is_runtime first_place) n in (omega arith, omega arith, omega arith));
+    needs_first = first_needs;
     begins = live;
   }

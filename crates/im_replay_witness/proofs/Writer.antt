@@ -25,7 +25,7 @@ use Rattle.im_ckpt.specs.Laws.{is_runtime, IsCut, HasRuntime, IsIntact}
 use Rattle.im_ckpt.proofs.Rungs.{entry_line, ladder_reg, shift_back, flip_back, ladder_store, store_back, reg_named}
 use Rattle.im_ckpt.proofs.Slots.{saves_if}
 use Rattle.im_ckpt.proofs.Phases.{Entering, Climbing, Returning, none_kept, mem_next, next_is, effect_is, entry_line_at, entry_step, ladder_line_at, climb_store, climb_flip, slot_place, climb_on, climb_shift, flip_on, return_on, return_line_at, enters, in_entry, on_ladder, at_return, comes_back}
-use Rattle.im_replay.specs.Needed.{uses, Needed}
+use Rattle.im_replay.specs.Needed.{uses, Used, Needed}
 use Rattle.im_replay.specs.Sections.{IsLive}
 use Rattle.im_replay.specs.Owed.{IsOwed}
 use Rattle.im_replay_witness.specs.Writer.{own}
@@ -517,9 +517,9 @@ module _ (run : ℕ → State) (steps : IsRun run) (image : WriterImage (run 0).
       by_line k (inl q) e = (let l = own_at t0 4 c.before (omega arith) (e ∙ ap (λ z. 5044 + 4 * z) q) in ap (λ z. sets_by (effect_at (run t0)) (rd_of z) 3) l ∙ ap (λ z. sets_by z 3 3) (effect_is run 5076 based t0 (own 4) l))
       by_line k (inr q) e = (let l = own_at t0 6 c.before (omega arith) (e ∙ ap (λ z. 5044 + 4 * z) q) in ap (λ z. sets_by (effect_at (run t0)) (rd_of z) 3) l ∙ ap (λ z. sets_by z 3 3) (effect_is run 5076 based t0 (own 6) l))
 
-  -- outside the routine no register but x0, x5 and, at the beginning, x6 is needed
-  pub outside_needs : (u i : ℕ) → is_runtime (run u).cpu.pc ≡ false → Needed run u i → (i ≡ 0) ⊎ ((i ≡ 5) ⊎ ((i ≡ 6) × (u ≤ 2)))
-  outside_needs u i out n = elim (use_at n.time i (at n.time).fine (at n.time).spot n.used) [
+  -- outside the routine no register but x0, x5 and, at the beginning, x6 is used again
+  outside_uses : (u i : ℕ) → is_runtime (run u).cpu.pc ≡ false → Used run u i → (i ≡ 0) ⊎ ((i ≡ 5) ⊎ ((i ≡ 6) × (u ≤ 2)))
+  outside_uses u i out n = elim (use_at n.time i (at n.time).fine (at n.time).spot n.used) [
     | Nothing q ↦ inl q
     | Five q ↦ inr (inl q)
     | Six q early ↦ inr (inr (q, (let l = n.later in omega arith)))
@@ -603,18 +603,20 @@ module _ (run : ℕ → State) (steps : IsRun run) (image : WriterImage (run 0).
   ]
 
   needs : (t m i : ℕ) → IsCut run t m → Needed run (t + m + 8) i → (i ≤ m) × (i ≢ 3) × (i ≢ 4)
-  needs t m i c n =
+  needs t m i c (inr two) = let a = c.above in (omega arith, omega arith, omega arith)
+  needs t m i c (inl n) =
       let q = cut_is t m c in
       let five = q.0 in
       let x = comes_back run 5076 based t m c q.1.fine in
-      elim (outside_needs (t + m + 8) i (ap is_runtime x.1 ∙ c.back) n) [
+      elim (outside_uses (t + m + 8) i (ap is_runtime x.1 ∙ c.back) n) [
         | inl z ↦ (omega arith, omega arith, omega arith)
         | inr (inl z) ↦ (omega arith, omega arith, omega arith)
         | inr (inr z) ↦ absurd (let w = z.1 in omega arith)
       ]
 
   pub first_needs : (i : ℕ) → Needed run 0 i → (i ≢ 3) × (i ≢ 4) × (i < 32)
-  first_needs i n = elim (outside_needs 0 i (ap is_runtime first_place) n) [
+  first_needs i (inr two) = (omega arith, omega arith, omega arith)
+  first_needs i (inl n) = elim (outside_uses 0 i (ap is_runtime first_place) n) [
     | inl z ↦ (omega arith, omega arith, omega arith)
     | inr (inl z) ↦ (omega arith, omega arith, omega arith)
     | inr (inr z) ↦ (let w = z.0 in omega arith, let w = z.0 in omega arith, let w = z.0 in omega arith)
