@@ -9,9 +9,10 @@ use Rattle.im_frame.specs.declared.fault.FrameFault.{FrameFault}
 use Rattle.im_frame.specs.declared.fault.FrameFault.TheVariants.{Limit, OutOfMemory}
 use Rattle.im_frame.specs.Layout.{IsLayout, IsFault, bytes_of}
 use Rattle.im_select_addresses.specs.Addresses.{AreLayouts}
-use Rattle.im_compile.specs.Lowered.{AreNamedFrames}
+use Rattle.im_compile.specs.Made.{AreNamedFrames}
 use Rattle.im_compile.specs.Built as built
-use Rattle.im_compile.specs.Ready.{IsFrameFault, of_frame}
+use Rattle.im_compile.specs.Faults.{IsFrameFault}
+use Rattle.im_compile.specs.Ready.{of_frame}
 
 -- the element of which a loop's index is that of the next one of a row
 pub next_at : {X : Type 0} (xs : List X) (number count : ℕ) (x : X) → count ≡ number → number < length xs → x ≡ get_or xs number x → slice_get xs count ≡ Some x

@@ -24,6 +24,19 @@ pub record IsFrameTooLarge (functions : List Function) (i bytes : ℕ) : Type 0 
   pub large : 65536 < bytes
   pub first : (k : ℕ) (g : Function) → k < i → slice_get functions k ≡ Some g → bytes_of g ≤ 65536
 
+-- why code isn't set out: its first function whose frame is too large, or want of memory
+abbrev pub IsFrameFault : List Function → CompileFault → Type 0
+IsFrameFault functions (Frame i bytes) = IsFrameTooLarge functions i bytes
+IsFrameFault functions (TooMuchCode bytes) = ⊥
+IsFrameFault functions OutOfMemory = Unit {0}
+
+-- why parts aren't finished: they don't fit between 0x1000 and 0x100000, and so many bytes they have, or want of memory
+abbrev pub IsCodeFault : List Part → CompileFault → Type 0
+IsCodeFault parts (Frame i bytes) = ⊥
+IsCodeFault parts (TooMuchCode bytes) = (byte_limit < byte_count parts) × (bytes ≡ told_count parts)
+IsCodeFault parts OutOfMemory = Unit {0}
+
+-- a frame of code that the passes may make of the program is too large
 pub record HasLargeFrame (prog : Prog) (max_gap : Option ℕ) (i bytes : ℕ) : Type 0 where
   pub code : Code
   pub passed : IsPassed prog max_gap code
@@ -39,7 +52,7 @@ pub record IsAssembled (prog : Prog) (max_gap : Option ℕ) (parts : List Part) 
   pub place_statics : addresses ≡ places_from statics_start (objects_of code.statics.items)
   pub assemble : IsProgram code addresses layouts parts
 
--- the code doesn't fit between 0x1000 and 0x100000
+-- code that the passes may make of the program doesn't fit between 0x1000 and 0x100000
 pub record HasLargeCode (prog : Prog) (max_gap : Option ℕ) (bytes : ℕ) : Type 0 where
   pub parts : List Part
   pub assembled : IsAssembled prog max_gap parts

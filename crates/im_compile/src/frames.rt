@@ -2,8 +2,9 @@ ghost use Rattle.std.specs.Prelude.{◌≡◌, ◌≤◌, ◌<◌, ◌^◌, All,
 ghost use Rattle.im_block.specs.declared.unit.Function.{Function as FunctionOf};
 ghost use Rattle.im_frame.specs.Layout.{bytes_of};
 ghost use Rattle.im_select_addresses.specs.Addresses.{AreLayouts};
-ghost use Rattle.im_compile.specs.Lowered.{AreNamedFrames};
-ghost use Rattle.im_compile.specs.Ready.{IsFrameFault, IsFrameOf, of_frame};
+ghost use Rattle.im_compile.specs.Faults.{IsFrameFault};
+ghost use Rattle.im_compile.specs.Made.{AreNamedFrames};
+ghost use Rattle.im_compile.specs.Ready.{IsFrameOf, of_frame};
 
 use crate::fault::CompileFault;
 use im_block::Function;

@@ -4,15 +4,20 @@
 mod built;
 mod compiling;
 mod fault;
+mod finishing;
 mod frames;
 mod laws;
-mod linking;
+mod making;
 mod options;
 mod passes;
-mod prepared;
+mod setting_out;
+mod texts;
 
 pub use built::Built;
 pub use compiling::{compile, compile_owned};
 pub use fault::CompileFault;
+pub use finishing::finish;
 pub use laws::ready_law;
+pub use making::{Made, make};
 pub use options::Options;
+pub use setting_out::{Assembled, set_out};

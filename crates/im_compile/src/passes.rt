@@ -1,10 +1,10 @@
 ghost use Rattle.std.specs.Prelude.{◌≡◌, IfOk};
 ghost use Rattle.im_typed.specs.declared.program.Prog.{Prog as TypedProgram};
-ghost use Rattle.im_compile.specs.Lowered.{AreNamesOf, IsLoweredCode, IsLoweredFrom};
-ghost use Rattle.im_compile.specs.Passed.{IsPassed, IsReady, IsSource};
+ghost use Rattle.im_compile.specs.Lowered.{IsLoweredCode, IsLoweredFrom};
+ghost use Rattle.im_compile.specs.Made.{AreNamesOf};
+ghost use Rattle.im_compile.specs.Passed.{IsPassed, IsSource};
 ghost use Rattle.im_recut.specs.Recut.{IsGapLimit};
 
-use crate::laws::ready_law;
 use im_alias::alias;
 use im_alloc::place;
 use im_alloc_laws::placed_code_law;
@@ -57,10 +57,8 @@ pub(crate) fn placed_code(
 ) -> Result<Unit, NoMemory>
     requires source { (prog : TypedProgram) × IsSource prog × IsLoweredCode prog lowered }
     requires limit { IsGapLimit max_gap }
-    ensures passed { (prog : TypedProgram) → IsSource prog → IsLoweredCode prog lowered
+    ensures { (prog : TypedProgram) → IsLoweredCode prog lowered
         → IfOk result (IsPassed prog max_gap) }
-    ensures ready { (prog : TypedProgram) → IsSource prog → IsLoweredCode prog lowered
-        → IfOk result (IsReady prog max_gap) }
 {
     lowered_form_law();
     registers_law();
@@ -69,7 +67,6 @@ pub(crate) fn placed_code(
     cuts_keep_code_law();
     cuts_keep_places_law();
     placed_code_law();
-    ready_law();
     let forwarded = in_registers(alloc, lowered)?;
     let forced = force(alloc, forwarded)?;
     let tags = alias(alloc, &forced)?;

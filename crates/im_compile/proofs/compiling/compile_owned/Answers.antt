@@ -1,11 +1,21 @@
-use Rattle.im_compile.proofs.Ready.{limit_of, namable}
+use Rattle.im_compile.specs.Made.{IsAssembledFrom}
+use Rattle.im_compile.proofs.Faulty.{of_frames, of_finishing}
+use Rattle.std.proofs.lemmas.Result.{err_from_is_err_and}
 use Rattle.im_compile.proofs.compiling.compile_owned.Goals as goal
 
-pub prepare-requires-clause-limit : goal.prepare-requires-clause-limit
-prepare-requires-clause-limit c = limit_of c.args.options.max_gap c.requires.options.gap
+pub set_out-requires : goal.set_out-requires
+set_out-requires c = (c.args.prog, c.args.options.max_gap, c.requires.source, c.in_ok-made.ensures)
 
-pub finished-requires-clause-prepared : goal.finished-requires-clause-prepared
-finished-requires-clause-prepared c = (c.args.prog, c.in_ok-prepared.ensures c.args.prog c.requires.source c.in_ok-lowered.ensures)
+pub returns-in_err-assembled : goal.returns-in_err-assembled
+returns-in_err-assembled c =
+    let p = err_from_is_err_and c.from_residual-in_err-assembled.result c.from_residual-in_err-assembled.ensures.1 in
+    rw (p.1, p.2) (of_frames c.args.prog c.args.options.max_gap c.in_ok-made.made.unit c.in_ok-made.ensures.passed c.in_err-assembled.field-0.0 c.in_err-assembled.ensures)
 
-pub finished-requires-clause-named : goal.finished-requires-clause-named
-finished-requires-clause-named c = namable c.args.prog c.args.options.max_gap _ (c.in_ok-prepared.ensures c.args.prog c.requires.source c.in_ok-lowered.ensures).passed c.requires.named
+pub finish-requires-clause-source : goal.finish-requires-clause-source
+finish-requires-clause-source c = (c.args.prog, c.requires.source, c.requires.named, record { made = c.in_ok-made.made; is_made = c.in_ok-made.ensures; set_out = c.in_ok-assembled.ensures })
+
+pub returns : goal.returns
+returns c =
+    let s = c.in_ok-assembled.ensures in
+    let a : IsAssembledFrom c.args.prog c.args.options.max_gap c.in_ok-assembled.assembled = record { made = c.in_ok-made.made; is_made = c.in_ok-made.ensures; set_out = s } in
+    of_finishing c.args.prog c.args.options c.in_ok-assembled.assembled a c.finish.result (c.finish.ensures.built c.args.prog c.requires.source a) (c.finish.ensures.limit s.parts s.holds)

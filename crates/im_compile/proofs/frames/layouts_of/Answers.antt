@@ -1,6 +1,7 @@
 use Rattle.std.proofs.Common.{◌≡◌, ◌+◌, [], ◌∷◌, length, sym, ap, ◌∙◌, subst, arith}
 use Rattle.std.proofs.lemmas.List.{length-append}
-use Rattle.im_compile.specs.Ready.{IsFrameFault, of_frame}
+use Rattle.im_compile.specs.Faults.{IsFrameFault}
+use Rattle.im_compile.specs.Ready.{of_frame}
 use Rattle.im_compile.proofs.Rows.{Laid, next_at, laid_more, all_laid, frame_fault}
 use Rattle.im_compile.proofs.frames.layouts_of.Goals as goal
 

@@ -1,5 +1,5 @@
 use Rattle.std.proofs.Common.{take}
-use Rattle.im_compile.specs.Lowered.{AreNamesOf}
+use Rattle.im_compile.specs.Made.{AreNamesOf}
 use Rattle.im_compile.proofs.passes.function_names.Given as goal
 
 abbrev pub invariant-loop-func : goal.invariant-loop-func

@@ -1,6 +1,6 @@
 use Rattle.std.proofs.Common.{List, subst}
 use Rattle.im_typed.specs.declared.program.Func.{Func}
-use Rattle.im_compile.specs.Lowered.{AreNamesOf}
+use Rattle.im_compile.specs.Made.{AreNamesOf}
 use Rattle.im_compile.proofs.passes.lowered_code.Goals as goal
 
 pub returns : goal.returns

@@ -42,13 +42,7 @@ pub recut-requires-clause-forced : goal.recut-requires-clause-forced
 recut-requires-clause-forced c =
     placed_forced c.force_keeps_law.ensures c.placed_code_law.ensures c.in_ok-forwarded.forwarded c.in_ok-forced.forced c.in_ok-placed.placed c.in_ok-forced.ensures c.in_ok-placed.ensures.placed.placed
 
-pub returns-clause-passed : goal.returns-clause-passed
-returns-clause-passed c prog source l =
+pub returns : goal.returns
+returns c prog l =
     passed prog c.args.lowered c.in_ok-forwarded.forwarded c.in_ok-forced.forced c.in_ok-tags.tags c.args.max_gap c.in_ok-placed.placed
     c.in_ok-code.code l c.in_ok-forwarded.ensures c.in_ok-forced.ensures c.in_ok-tags.ensures.sound c.in_ok-placed.ensures.placed c.in_ok-code.ensures
-
-pub returns-clause-ready : goal.returns-clause-ready
-returns-clause-ready c prog source l =
-    c.ready_law.ensures prog c.args.max_gap c.in_ok-code.code source
-    (passed prog c.args.lowered c.in_ok-forwarded.forwarded c.in_ok-forced.forced c.in_ok-tags.tags c.args.max_gap c.in_ok-placed.placed
-    c.in_ok-code.code l c.in_ok-forwarded.ensures c.in_ok-forced.ensures c.in_ok-tags.ensures.sound c.in_ok-placed.ensures.placed c.in_ok-code.ensures)

@@ -1,7 +1,7 @@
 use Rattle.std.proofs.Common.{◌<◌, length, arith}
 use Rattle.std.specs.Prelude.{string_bytes}
 use Rattle.im_compile.proofs.Names.{char_on}
-use Rattle.im_compile.proofs.linking.text_of.Goals as goal
+use Rattle.im_compile.proofs.texts.text_of.Goals as goal
 
 pub loop-byte-preserved : goal.loop-byte-preserved
 loop-byte-preserved c =

@@ -1,6 +1,6 @@
 use Rattle.std.proofs.Common.{◌≡◌, take}
 use Rattle.std.specs.Prelude.{string_bytes, encode_utf8_all}
-use Rattle.im_compile.proofs.linking.text_of.Given as goal
+use Rattle.im_compile.proofs.texts.text_of.Given as goal
 
 abbrev pub invariant-loop-byte : goal.invariant-loop-byte
 invariant-loop-byte l = string_bytes l.text ≡ encode_utf8_all (take l.byte-index l.name)
