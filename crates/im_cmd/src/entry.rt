@@ -26,11 +26,11 @@ use std::alloc::Global;
 /// | 2 | the words name no command, or ask for help |
 /// | 3 | the source is refused: it is no C, breaks a rule, or is over a limit |
 /// | 4 | a run neither halted nor faulted in the periods of power that it had |
-/// | 5 | the file that is to be run, shown or upgraded holds no image (nor, to be upgraded, a memory) |
+/// | 5 | the file to be run, shown or upgraded holds no image (nor, to be upgraded, a memory) |
 /// | 6 | the text of the trace's file is no trace's |
 /// | 7 | a file can't be read |
 /// | 8 | the image, the memory, the output or the report can't be written |
-/// | 9 | memory ran out, or a number passed what no memory holds |
+/// | 9 | memory ran out, or a case came that isn't proved impossible; none is known that can come |
 /// | 10 | a run ended by a machine fault |
 /// | 11 | what a source that is evaluated does is undefined |
 /// | 12 | an evaluation ran out of fuel |

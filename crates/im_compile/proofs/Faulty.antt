@@ -14,10 +14,10 @@ use Rattle.im_compile.specs.declared.built.Built.{Built}
 use Rattle.im_compile.specs.declared.fault.CompileFault.{CompileFault}
 use Rattle.im_compile.specs.declared.fault.CompileFault.TheVariants.{Frame, Code as TooMuchCode, OutOfMemory}
 use Rattle.im_compile.specs.declared.options.Options.{Options}
-use Rattle.im_compile.specs.declared.setting_out.Assembled.{Assembled}
+use Rattle.im_compile.specs.declared.setting_out.Unlinked.{Unlinked}
 use Rattle.im_compile.specs.Built.{IsBuilt}
 use Rattle.im_compile.specs.Faults.{IsFaultOf, IsFrameFault, IsCodeFault}
-use Rattle.im_compile.specs.Made.{IsAssembledFrom}
+use Rattle.im_compile.specs.Made.{IsUnlinkedFrom}
 use Rattle.im_compile.specs.Passed.{IsPassed}
 use Rattle.im_compile.specs.Ready.{of_link}
 
@@ -26,23 +26,23 @@ of_frames prog max_gap code passed (Frame i bytes) h = record { code = code; pas
 of_frames prog max_gap code passed (TooMuchCode bytes) h = absurd h
 of_frames prog max_gap code passed OutOfMemory h = tt
 
-of_code : (prog : Prog) (max_gap : Option ℕ) (assembled : Assembled) (a : IsAssembledFrom prog max_gap assembled) (e : CompileFault) → IsCodeFault a.set_out.parts e → IsFaultOf prog max_gap e
-of_code prog max_gap assembled a (Frame i bytes) h = absurd h
-of_code prog max_gap assembled a (TooMuchCode bytes) h =
+of_code : (prog : Prog) (max_gap : Option ℕ) (unlinked : Unlinked) (a : IsUnlinkedFrom prog max_gap unlinked) (e : CompileFault) → IsCodeFault a.set_out.parts e → IsFaultOf prog max_gap e
+of_code prog max_gap unlinked a (Frame i bytes) h = absurd h
+of_code prog max_gap unlinked a (TooMuchCode bytes) h =
     let s = a.set_out in
     record {
       parts = s.parts;
-      assembled = record { code = a.made.unit; passed = a.is_made.passed; layouts = s.layouts; lay_out = s.lay_out; addresses = assembled.addresses.items; place_statics = s.place_statics; assemble = s.assemble };
+      assembled = record { code = a.made.unit; passed = a.is_made.passed; layouts = s.layouts; lay_out = s.lay_out; addresses = unlinked.addresses.items; place_statics = s.place_statics; assemble = s.assemble };
       large = h.0;
       told = h.1;
     }
-of_code prog max_gap assembled a OutOfMemory h = tt
+of_code prog max_gap unlinked a OutOfMemory h = tt
 
 -- what finishing answers
-pub of_finishing : (prog : Prog) (options : Options) (assembled : Assembled) (a : IsAssembledFrom prog options.max_gap assembled) (result : Result Built CompileFault) →
+pub of_finishing : (prog : Prog) (options : Options) (unlinked : Unlinked) (a : IsUnlinkedFrom prog options.max_gap unlinked) (result : Result Built CompileFault) →
     IfOk result (IsBuilt prog options) → IfErr result (IsCodeFault a.set_out.parts) → MatchResult result (IsBuilt prog options) (IsFaultOf prog options.max_gap)
-of_finishing prog options assembled a (Ok built) is fault = is
-of_finishing prog options assembled a (Err e) is fault = of_code prog options.max_gap assembled a e fault
+of_finishing prog options unlinked a (Ok built) is fault = is
+of_finishing prog options unlinked a (Err e) is fault = of_code prog options.max_gap unlinked a e fault
 
 -- all parts that a linker may have are of one size, as far as it is told
 same_size : (x y bytes : ℕ) → min x (2 ^ 64 - 1) ≡ min y (2 ^ 64 - 1) → 1044480 < 4 * x → bytes ≡ min (4 * x) (2 ^ 64 - 1) → (1044480 < 4 * y) × (bytes ≡ min (4 * y) (2 ^ 64 - 1))

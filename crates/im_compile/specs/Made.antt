@@ -14,10 +14,11 @@ use Rattle.im_select_addresses.specs.Statics.{objects_of}
 use Rattle.im_link_laws.specs.Program.{IsProgram}
 use Rattle.im_select_assemble.specs.Names.{part_names, program_names}
 use Rattle.im_compile.specs.declared.making.Made.{Made}
-use Rattle.im_compile.specs.declared.setting_out.Assembled.{Assembled}
+use Rattle.im_compile.specs.declared.setting_out.Unlinked.{Unlinked}
 use Rattle.im_compile.specs.Built.{bytes_of}
 use Rattle.im_compile.specs.Passed.{IsPassed}
 
+-- these are the functions' names, in their order
 abbrev pub AreNamesOf : List Func → List (Vec ℕ Global) → Type 0
 AreNamesOf funcs names = map (λ (name : Vec ℕ Global). name.items) names ≡ map (λ (f : Func). f.name.items) funcs
 
@@ -36,19 +37,19 @@ abbrev pub texts_of_names : List (Vec ℕ Global) → List (List ℕ)
 texts_of_names names = map (λ (name : Vec ℕ Global). encode_utf8_all name.items) names
 
 -- frames and places of this very code, and its parts, by name, in the linker
-pub record IsSetOut (made : Made) (assembled : Assembled) : Type 0 where
+pub record IsSetOut (made : Made) (unlinked : Unlinked) : Type 0 where
   pub layouts : List Layout
   pub lay_out : AreLayouts made.unit.functions.items layouts
-  pub frames : AreNamedFrames made.names.items layouts assembled.frames.frames.items
-  pub statics : assembled.statics ≡ made.unit.statics
-  pub place_statics : assembled.addresses.items ≡ places_from statics_start (objects_of made.unit.statics.items)
+  pub frames : AreNamedFrames made.names.items layouts unlinked.frames.frames.items
+  pub statics : unlinked.statics ≡ made.unit.statics
+  pub place_statics : unlinked.addresses.items ≡ places_from statics_start (objects_of made.unit.statics.items)
   pub parts : List Part
-  pub holds : Holds assembled.linker parts
-  pub assemble : IsProgram made.unit assembled.addresses.items layouts parts
+  pub holds : Holds unlinked.linker parts
+  pub assemble : IsProgram made.unit unlinked.addresses.items layouts parts
   pub named : part_names parts ≡ program_names (texts_of_names made.names.items)
 
--- it was set out of code that was made of the program
-pub record IsAssembledFrom (prog : Prog) (max_gap : Option ℕ) (assembled : Assembled) : Type 0 where
+-- they were set out of code that was made of the program
+pub record IsUnlinkedFrom (prog : Prog) (max_gap : Option ℕ) (unlinked : Unlinked) : Type 0 where
   pub made : Made
   pub is_made : IsMade prog max_gap made
-  pub set_out : IsSetOut made assembled
+  pub set_out : IsSetOut made unlinked

@@ -23,8 +23,8 @@ pub fn compile(alloc: Global, prog: &Prog, options: Options) -> Result<Built, Co
     ensures { MatchResult result (IsBuilt prog.now options) (IsFaultOf prog.now options.max_gap) }
 {
     let made = make(alloc, prog, options.max_gap)?;
-    let assembled = set_out(alloc, made)?;
-    finish(alloc, assembled, options)
+    let unlinked = set_out(alloc, made)?;
+    finish(alloc, unlinked, options)
 }
 
 /// The image of a program, as `compile` gives it; the program is given back once it is block code.
@@ -35,6 +35,6 @@ pub fn compile_owned(alloc: Global, prog: Prog, options: Options) -> Result<Buil
     ensures { MatchResult result (IsBuilt prog options) (IsFaultOf prog options.max_gap) }
 {
     let made = make_owned(alloc, prog, options.max_gap)?;
-    let assembled = set_out(alloc, made)?;
-    finish(alloc, assembled, options)
+    let unlinked = set_out(alloc, made)?;
+    finish(alloc, unlinked, options)
 }

@@ -20,4 +20,4 @@ pub use finishing::finish;
 pub use laws::ready_law;
 pub use making::{Made, make};
 pub use options::Options;
-pub use setting_out::{Assembled, set_out};
+pub use setting_out::{Unlinked, set_out};

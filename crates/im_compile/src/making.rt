@@ -11,13 +11,14 @@ use std::alloc::Global;
 /// Placed code with all its cuts, and the names of its functions.
 #[derive(Drop)]
 pub struct Made {
+    /// The code, whose registers are the machine's.
     pub unit: Unit,
     /// The name of each function.
     pub names: Vec<Vec<u8>>,
 }
 
 /// The placed code of a program with all its cuts; `max_gap` is the longest gap that is asked for,
-/// in instructions.
+/// in instructions. It fails by want of memory alone.
 pub fn make(alloc: Global, prog: &Prog, max_gap: Option<u32>) -> Result<Made, NoMemory>
     requires source { IsSource prog.now }
     requires gap { IsGapOption max_gap }

@@ -18,8 +18,10 @@ use std::alloc::Global;
 
 /// The parts of made code in a linker, and what else its image needs.
 #[derive(Drop)]
-pub struct Assembled {
+pub struct Unlinked {
+    /// The runtime's parts and those of the functions, whose labels have no places yet.
     pub linker: Linker,
+    /// The objects that live as long as the program, with their first values.
     pub statics: Vec<Static>,
     /// The address of each static.
     pub addresses: Vec<u32>,
@@ -30,7 +32,7 @@ pub struct Assembled {
 /// Lays out the frames of made code, gives its statics their places, and puts its parts into a
 /// linker. Of `CompileFault` it gives `Frame`, for the first function of this code whose frame has
 /// more than 65536 bytes, and `OutOfMemory`.
-pub fn set_out(alloc: Global, made: Made) -> Result<Assembled, CompileFault>
+pub fn set_out(alloc: Global, made: Made) -> Result<Unlinked, CompileFault>
     requires { (prog : TypedProgram) × (max_gap : Option ℕ) × IsSource prog
         × IsMade prog max_gap made }
     ensures { MatchResult result (IsSetOut made) (IsFrameFault made.unit.functions.items) }
@@ -47,7 +49,7 @@ pub fn set_out(alloc: Global, made: Made) -> Result<Assembled, CompileFault>
         names: &texts,
     };
     let assembled = assemble(alloc, unit, &program)?;
-    Ok(Assembled {
+    Ok(Unlinked {
         linker: assembled.linker,
         statics: assembled.statics,
         addresses,

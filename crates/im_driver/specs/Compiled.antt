@@ -72,7 +72,8 @@ pub record IsCompiled (source : List ℕ) (options : Options) (built : Built) : 
   pub keeps : Keeps (meaning_of prog (frames_of built) built.image) built.image built.gap
   -- each moment under losses of power is one of the run without losses, wherever the source is right, also if it never ends
   pub survives : (input : List ℕ) → IsInput input → IsRightFor (meaning_of prog (frames_of built) built.image) input → Survives built.image built.gap input
-  -- and no memory beside that of the runtime, of the image's objects, its stack and the output is ever changed
+  -- and no memory beside that of the runtime, of the image's objects, its stack and the output is ever changed; no step changes
+  -- the live register buffer, output that was shown, or the stack below x2
   pub writes : (input : List ℕ) → IsInput input → IsRightFor (meaning_of prog (frames_of built) built.image) input → Writes built.image input
   -- with power that never fails, whichever word the registers hold when it comes
   pub ending : (input : List ℕ) (fuel reason : ℕ) (status : ℤ) (output : List ℕ) (variables : List Variable) → IsInput input →

@@ -48,8 +48,7 @@ IsLiveByte m a = (buffer (index_of m) ≤ a) × (a < buffer (index_of m) + 128)
 abbrev pub LeavesLive : Moment → Type 0
 LeavesLive x = (mask a : ℕ) → IsLiveByte x.mem a → ((step_of x.cpu x.mem).mem a ≡ x.mem a) × (torn_of mask x.cpu x.mem a ≡ x.mem a)
 
--- a byte of the free stack, which lies below the stack pointer x2: the frames of the functions that were entered and haven't
--- returned lie from x2 on, up to the stack's end
+-- a byte of the free stack: of the image's stack, and below the stack pointer x2. A section that runs again may still read it
 abbrev pub IsFreeByte : ImageValue → Moment → ℕ → Type 0
 IsFreeByte image x a = (is_stack image a ≡ true) × (a < x.cpu.x 2)
 
@@ -78,5 +77,5 @@ pub record Writes (image : ImageValue) (input : List ℕ) : Type 0 where
   pub live : (periods : List Period) (n junk : ℕ) → (within periods n junk (memory_of image input)).went ≡ On → LeavesLive (within periods n junk (memory_of image input))
   -- output is stored at its end alone, at every moment with power on
   pub appends : (periods : List Period) (n junk : ℕ) → (within periods n junk (memory_of image input)).went ≡ On → AppendsAtMost image (within periods n junk (memory_of image input))
-  -- of the stack the frames alone are changed, at every moment with power on
+  -- of the stack no byte below x2 is changed, at every moment with power on
   pub free : (periods : List Period) (n junk : ℕ) → (within periods n junk (memory_of image input)).went ≡ On → LeavesFree image (within periods n junk (memory_of image input))

@@ -13,7 +13,8 @@ use im_pack_laws::{in_image_law, named_law};
 use im_select_relation::select_keeps_law;
 
 /// Whatever power does, an image that is built changes no byte of memory beside the runtime's
-/// words, the register buffers, its objects, its stack and the output.
+/// words, the register buffers, its objects, its stack and the output; of the buffers the idle one
+/// alone, of the output the byte behind what is shown alone, of the stack none below x2.
 pub fn built_writes_law()
     ensures { BuiltWritesLaw }
 {

@@ -15,7 +15,7 @@ use Rattle.im_compile.proofs.finishing.finish.Goals as goal
 pub finish-requires : goal.finish-requires
 finish-requires c =
     let a = c.requires.source.3 in
-    let linkable = linkable_of c.ready_law.ensures c.linkable_law.ensures c.requires.source.0 c.args.options.max_gap c.args.assembled c.requires.source.1 a in
+    let linkable = linkable_of c.ready_law.ensures c.linkable_law.ensures c.requires.source.0 c.args.options.max_gap c.args.unlinked c.requires.source.1 a in
     record { parts = a.set_out.parts; holds = a.set_out.holds; linkable = linkable }
 
 pub returns-in_err-code-clause-limit : goal.returns-in_err-code-clause-limit
@@ -23,28 +23,28 @@ returns-in_err-code-clause-limit c parts holds =
     let p = err_from_is_err_and c.from_residual.result c.from_residual.ensures.1 in
     let a = c.requires.source.3 in
     let s = a.set_out in
-    let linkable = linkable_of c.ready_law.ensures c.linkable_law.ensures c.requires.source.0 c.args.options.max_gap c.args.assembled c.requires.source.1 a in
-    rw (p.1, p.2) (of_link_fault c.args.assembled.linker s.parts parts s.holds holds c.in_err-code.field-0.0 (c.in_err-code.ensures.code s.parts s.holds linkable))
+    let linkable = linkable_of c.ready_law.ensures c.linkable_law.ensures c.requires.source.0 c.args.options.max_gap c.args.unlinked c.requires.source.1 a in
+    rw (p.1, p.2) (of_link_fault c.args.unlinked.linker s.parts parts s.holds holds c.in_err-code.field-0.0 (c.in_err-code.ensures.code s.parts s.holds linkable))
 
 pub gap-requires-clause-few : goal.gap-requires-clause-few
 gap-requires-clause-few c =
     let a = c.requires.source.3 in
     let s = a.set_out in
-    let linkable = linkable_of c.ready_law.ensures c.linkable_law.ensures c.requires.source.0 c.args.options.max_gap c.args.assembled c.requires.source.1 a in
+    let linkable = linkable_of c.ready_law.ensures c.linkable_law.ensures c.requires.source.0 c.args.options.max_gap c.args.unlinked c.requires.source.1 a in
     few s.parts c.in_ok-code.code (c.in_ok-code.ensures.code s.parts s.holds linkable)
 
 pub gap-requires-clause-defined : goal.gap-requires-clause-defined
 gap-requires-clause-defined c =
     let a = c.requires.source.3 in
     let s = a.set_out in
-    let ready = ready_of c.ready_law.ensures c.requires.source.0 c.args.options.max_gap c.args.assembled c.requires.source.1 a in
-    let linkable = linkable_of c.ready_law.ensures c.linkable_law.ensures c.requires.source.0 c.args.options.max_gap c.args.assembled c.requires.source.1 a in
-    (c.linked_gap_law.ensures a.made.unit c.args.assembled.addresses.items s.layouts s.parts s.assemble ready.ordered ready.forced c.in_ok-code.code linkable (c.in_ok-code.ensures.code s.parts s.holds linkable)).has
+    let ready = ready_of c.ready_law.ensures c.requires.source.0 c.args.options.max_gap c.args.unlinked c.requires.source.1 a in
+    let linkable = linkable_of c.ready_law.ensures c.linkable_law.ensures c.requires.source.0 c.args.options.max_gap c.args.unlinked c.requires.source.1 a in
+    (c.linked_gap_law.ensures a.made.unit c.args.unlinked.addresses.items s.layouts s.parts s.assemble ready.ordered ready.forced c.in_ok-code.code linkable (c.in_ok-code.ensures.code s.parts s.holds linkable)).has
 
 pub pack-requires-clause-well_formed : goal.pack-requires-clause-well_formed
 pack-requires-clause-well_formed c =
     let a = c.requires.source.3 in
-    let ready = ready_of c.ready_law.ensures c.requires.source.0 c.args.options.max_gap c.args.assembled c.requires.source.1 a in
+    let ready = ready_of c.ready_law.ensures c.requires.source.0 c.args.options.max_gap c.args.unlinked c.requires.source.1 a in
     let same : c.deref.result.now ≡ a.made.unit.statics.items = c.deref.ensures.value ∙ ap (λ z. z.items) a.set_out.statics in
     (a.made.unit, sym same, ready.well_formed)
 
@@ -57,7 +57,7 @@ pack-requires-clause-named c =
 pub pack-requires-clause-room : goal.pack-requires-clause-room
 pack-requires-clause-room c =
     let a = c.requires.source.3 in
-    let ready = ready_of c.ready_law.ensures c.requires.source.0 c.args.options.max_gap c.args.assembled c.requires.source.1 a in
+    let ready = ready_of c.ready_law.ensures c.requires.source.0 c.args.options.max_gap c.args.unlinked c.requires.source.1 a in
     let same : c.deref.result.now ≡ a.made.unit.statics.items = c.deref.ensures.value ∙ ap (λ z. z.items) a.set_out.statics in
     room_of a.made.unit c.deref.result.now same ready.room
 
@@ -71,16 +71,16 @@ pub pack-requires-clause-code : goal.pack-requires-clause-code
 pack-requires-clause-code c =
     let a = c.requires.source.3 in
     let s = a.set_out in
-    let linkable = linkable_of c.ready_law.ensures c.linkable_law.ensures c.requires.source.0 c.args.options.max_gap c.args.assembled c.requires.source.1 a in
+    let linkable = linkable_of c.ready_law.ensures c.linkable_law.ensures c.requires.source.0 c.args.options.max_gap c.args.unlinked c.requires.source.1 a in
     loadable s.parts c.in_ok-code.code (c.in_ok-code.ensures.code s.parts s.holds linkable)
 
 pub returns-clause-built : goal.returns-clause-built
 returns-clause-built c prog source a =
     let unit = a.made.unit in
     let s = a.set_out in
-    let addresses = c.args.assembled.addresses.items in
-    let ready = ready_of c.ready_law.ensures prog c.args.options.max_gap c.args.assembled source a in
-    let linkable = linkable_of c.ready_law.ensures c.linkable_law.ensures prog c.args.options.max_gap c.args.assembled source a in
+    let addresses = c.args.unlinked.addresses.items in
+    let ready = ready_of c.ready_law.ensures prog c.args.options.max_gap c.args.unlinked source a in
+    let linkable = linkable_of c.ready_law.ensures c.linkable_law.ensures prog c.args.options.max_gap c.args.unlinked source a in
     let link = c.in_ok-code.ensures.code s.parts s.holds linkable in
     let same : c.deref.result.now ≡ unit.statics.items = c.deref.ensures.value ∙ ap (λ z. z.items) s.statics in
     record {
