@@ -104,8 +104,8 @@ pub fn dump<H: Shelf, O: Sink, E: Sink>(
     err: &mut E,
     image_name: &str,
 ) -> u8
-    ensures { CarriesOut (dumps image_name.now) (H.state shelf.old) (H.state shelf.new) (O.state out.old)
-        (O.state out.new) (E.state err.old) (E.state err.new) result }
+    ensures { CarriesOut (dumps image_name.now) (H.state shelf.old) (H.state shelf.new)
+        (O.state out.old) (O.state out.new) (E.state err.old) (E.state err.new) result }
 {
     match read_stored(alloc, shelf, image_name) {
         Ok(image) => {

@@ -76,8 +76,8 @@ fn send_shown<S: Sink>(
 
 // Sends the frames, how the evaluation ended, and the variables.
 fn send_report<S: Sink>(sink: &mut S, evaluation: &Evaluation, vars: bool) -> Result<(), Failed>
-    ensures { Sends (evaluation_report evaluation.now.built vars (told evaluation.now.outcome)) result
-        (S.state sink.old) (S.state sink.new) }
+    ensures { Sends (evaluation_report evaluation.now.built vars (told evaluation.now.outcome))
+        result (S.state sink.old) (S.state sink.new) }
 {
     let built = &evaluation.built;
     let outcome = &evaluation.outcome;

@@ -50,7 +50,8 @@ fn take_input<'a, H: Shelf>(
 ) -> Result<Vec<u8>, Refusal<'a>>
     ensures { let named = option_map (λ file. file.now) file.entry in MatchResult result
         (λ input. TakesInput named input.items (H.state shelf.old) (H.state shelf.new))
-        (λ refusal. RefusesInput named (H.state shelf.old) (H.state shelf.new) (refused_of refusal)) }
+        (λ refusal. RefusesInput named (H.state shelf.old) (H.state shelf.new)
+        (refused_of refusal)) }
 {
     let input = match read_input(alloc, shelf, file) {
         Ok(input) => input,
@@ -73,7 +74,8 @@ fn sizes_of(alloc: Global, frames: &[Frame]) -> Result<Vec<u32>, NoMemory>
     Ok(sizes)
 }
 
-// What the program does on an input, with the frames, the stack and the room for output of its image.
+// What the program does on an input, with the frames, the stack and the room for output of its
+// image.
 fn outcome_of(alloc: Global, whole: &Compiled, input: &[u8], fuel: u32) -> Result<Outcome, NoMemory>
     requires { IsSource whole.now.prog }
     ensures { IfOk result (λ outcome. told outcome ≡ meaning_of (program_of whole.now.prog)

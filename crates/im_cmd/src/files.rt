@@ -15,7 +15,8 @@ pub fn read_file<'a, H: Shelf>(
 ) -> Result<Vec<u8>, Refusal<'a>>
     ensures { MatchResult result (λ bytes. ReadsFile name.now bytes.items limit (H.state shelf.old)
         (H.state shelf.new))
-        (λ refusal. RefusesFile name.now limit (H.state shelf.old) (H.state shelf.new) (refused_of refusal)) }
+        (λ refusal. RefusesFile name.now limit (H.state shelf.old) (H.state shelf.new)
+        (refused_of refusal)) }
 {
     match read_whole(alloc, shelf, name, limit) {
         Ok(bytes) => Ok(bytes),

@@ -23,7 +23,8 @@ fn tell_ending<E: Sink>(err: &mut E, ending: Ending, status: i32) -> u8
     }
 }
 
-// Sends the line of a run that ended so to `out`, or how it ended to `err`, and gives the exit status.
+// Sends the line of a run that ended so to `out`, or how it ended to `err`, and gives the exit
+// status.
 fn tell_made<O: Sink, E: Sink>(
     out: &mut O,
     err: &mut E,

@@ -39,7 +39,8 @@ fn build_made<'a>(alloc: Global, count: u32) -> Result<Built, Refusal<'a>>
     }
 }
 
-// The machine on which what was built is run, with no input and under the periods of its longest gap.
+// The machine on which what was built is run, with no input and under the periods of its longest
+// gap.
 fn run_made<'a>(alloc: Global, count: u32, built: &Built) -> Result<Machine<PagedMem>, Refusal<'a>>
     requires { built.now.gap < 2 ^ 31 }
     ensures { MatchResult result (RunsMade count built.now)

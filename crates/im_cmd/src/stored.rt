@@ -19,7 +19,8 @@ pub fn read_stored<'a, H: Shelf>(
 ) -> Result<Image, Refusal<'a>>
     ensures { MatchResult result (λ image. ReadsImage name.now image (H.state shelf.old)
         (H.state shelf.new))
-        (λ refusal. RefusesImage name.now (H.state shelf.old) (H.state shelf.new) (refused_of refusal)) }
+        (λ refusal. RefusesImage name.now (H.state shelf.old) (H.state shelf.new)
+        (refused_of refusal)) }
 {
     let text = match read_file(alloc, shelf, name, IMAGE_LIMIT) {
         Ok(text) => text,

@@ -243,7 +243,8 @@ pub(crate) fn send_at_place<S: Sink>(
     why: LineFault,
 ) -> Result<(), Failed>
     requires { length source.now < 2 ^ 32 }
-    ensures { (subject : Subject) → Sends (source_message file.now source.now (Line place why) subject)
+    ensures { (subject : Subject)
+        → Sends (source_message file.now source.now (Line place why) subject)
         result (S.state sink.old) (S.state sink.new) }
 {
     let head = part_of(source, 0, place.start);
