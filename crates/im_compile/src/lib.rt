@@ -2,7 +2,6 @@
 #![tactic(auto)]
 
 mod built;
-mod compiling;
 mod fault;
 mod finishing;
 mod frames;
@@ -14,10 +13,9 @@ mod setting_out;
 mod texts;
 
 pub use built::Built;
-pub use compiling::{compile, compile_owned};
 pub use fault::CompileFault;
 pub use finishing::finish;
 pub use laws::ready_law;
-pub use making::{Made, make};
+pub use making::{Made, make, make_owned};
 pub use options::Options;
 pub use setting_out::{Unlinked, set_out};

@@ -29,8 +29,9 @@ pub fn make(alloc: Global, prog: &Prog, max_gap: Option<u32>) -> Result<Made, No
     Ok(Made { unit, names })
 }
 
-/// The code of a program, as `make` gives it; the program is given back once it is block code.
-pub(crate) fn make_owned(alloc: Global, prog: Prog, max_gap: Option<u32>) -> Result<Made, NoMemory>
+/// The placed code of a program, as `make` gives it; the program is given back once it is block
+/// code.
+pub fn make_owned(alloc: Global, prog: Prog, max_gap: Option<u32>) -> Result<Made, NoMemory>
     requires source { IsSource prog }
     requires gap { IsGapOption max_gap }
     ensures { IfOk result (IsMade prog max_gap) }

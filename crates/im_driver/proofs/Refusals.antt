@@ -1,5 +1,5 @@
 -- Refusals of the driver's steps are refusals of the source.
-use Rattle.std.proofs.Common.{ℕ, List, Option, Err}
+use Rattle.std.proofs.Common.{ℕ, List, Err}
 use Rattle.im_fault.specs.declared.fault.LineFault.{LineFault}
 use Rattle.im_fault.specs.declared.fault.LineFault.TheVariants.{BadByte, OpenComment, OpenLiteral, BadEscape, BadNumber, BadDirective, Syntax, Nesting, Dimensions, Rule}
 use Rattle.im_fault.specs.declared.fault.Place.{Place}
@@ -11,10 +11,8 @@ use Rattle.im_typed.specs.declared.program.Prog.{Prog}
 use Rattle.im_typed.specs.ProgramOf.{program_of}
 use Rattle.im_compile.specs.declared.fault.CompileFault.{CompileFault}
 use Rattle.im_compile.specs.declared.fault.CompileFault.TheVariants as compile
-use Rattle.im_compile.specs.Faults.{IsFaultOf}
-use Rattle.im_keeps_built.specs.Laws.{RefusedLaw}
 use Rattle.im_driver.specs.Compiled.{IsRefused, IsLineRefused}
-use Rattle.im_driver.specs.Steps.{IsReady, of_compile}
+use Rattle.im_driver.specs.Steps.{IsLargeFault, IsReady, of_compile}
 
 line_refused : (source : List ℕ) (place : Place) (why : LineFault) → IsWrong source place why → IsLineRefused source place why
 line_refused source place BadByte h = h
@@ -39,7 +37,7 @@ read_refused source (Limit Code count) h = absurd h
 read_refused source (Limit Derivations count) h = absurd h
 read_refused source OutOfMemory h = tt
 
-pub made_refused : RefusedLaw → (source : List ℕ) (made : Prog) (max_gap : Option ℕ) (fault : CompileFault) → IsReady source made → IsFaultOf made max_gap fault → IsRefused source (of_compile fault)
-made_refused law source made max_gap (compile.Frame function bytes) r h = record { prog = program_of made; program = r.program; function = function; large = law.frame made max_gap function bytes r.is_source h }
-made_refused law source made max_gap (compile.Code bytes) r h = record { prog = program_of made; program = r.program; large = law.code made max_gap bytes r.is_source h }
-made_refused law source made max_gap compile.OutOfMemory r h = tt
+pub made_refused : (source : List ℕ) (made : Prog) (fault : CompileFault) → IsReady source made → IsLargeFault made fault → IsRefused source (of_compile fault)
+made_refused source made (compile.Frame function bytes) r h = record { prog = program_of made; program = r.program; function = function; large = h }
+made_refused source made (compile.Code bytes) r h = record { prog = program_of made; program = r.program; large = h }
+made_refused source made compile.OutOfMemory r h = tt

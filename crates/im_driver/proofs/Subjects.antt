@@ -1,5 +1,5 @@
 -- Of what a quantity over its limit is counted.
-use Rattle.std.proofs.Common.{◌≡◌, ◌<◌, ℕ, zero, suc, List, [], ◌∷◌, length, map, Option, Some, Err, refl, sym, ap, ◌∙◌, subst, arith}
+use Rattle.std.proofs.Common.{◌≡◌, ◌<◌, ℕ, zero, suc, List, [], ◌∷◌, length, map, Some, Err, refl, sym, ap, ◌∙◌, subst, arith}
 use Rattle.std.specs.Prelude.{option_map, slice_get}
 use Rattle.std.proofs.lemmas.Option.{slice_get-map}
 use Rattle.im_fault.specs.declared.fault.Quantity.TheVariants.{Source, Parameters, Size, Statics, Frame, Code, Derivations}
@@ -19,9 +19,7 @@ use Rattle.im_check.specs.declared.fault.CheckFault.{CheckFault}
 use Rattle.im_check.specs.declared.fault.CheckFault.TheVariants as check
 use Rattle.im_check.specs.Checked.{IsCheckFault}
 use Rattle.im_compile.specs.declared.fault.CompileFault.TheVariants as compile
-use Rattle.im_compile.specs.Faults.{HasLargeFrame, IsFaultOf}
-use Rattle.im_compile.specs.Passed.{IsSource}
-use Rattle.im_keeps_built.specs.Laws.{IsLargeFrame, RefusedLaw}
+use Rattle.im_keeps_built.specs.Laws.{IsLargeFrame, IsLargeCode}
 use Rattle.im_driver.specs.declared.refused.Refused.{Refused}
 use Rattle.im_driver.specs.Compiled.{IsTreeOf, IsRefused}
 use Rattle.im_driver.specs.Refused.{IsRefusedFor, IsSubject}
@@ -95,11 +93,9 @@ at_mapped f [] i y e = cc
 at_mapped f (x ∷ xs) zero y e = (omega arith, x, refl)
 at_mapped f (x ∷ xs) (suc i) y e = let rest = at_mapped f xs i y e in (let less = rest.0 in omega arith, rest.1, rest.2)
 
-module _ (law : RefusedLaw) (made : Prog) (max_gap : Option ℕ) (is_source : IsSource made) where
-  pub function_at : (function bytes : ℕ) → HasLargeFrame made max_gap function bytes → (function < length made.funcs.items) × (f : Func) × (slice_get made.funcs.items function ≡ Some f)
-  function_at function bytes h =
-      let large = law.frame made max_gap function bytes is_source h in
-      at_mapped (func_of made.types) made.funcs.items function large.f large.is_function
+module _ (made : Prog) where
+  pub function_at : (function bytes : ℕ) → IsLargeFrame (program_of made) function bytes → (function < length made.funcs.items) × (f : Func) × (slice_get made.funcs.items function ≡ Some f)
+  function_at function bytes large = at_mapped (func_of made.types) made.funcs.items function large.f large.is_function
 
   -- the function of the program's value is that of the program
   name_of_large : (function bytes : ℕ) (h : IsLargeFrame (program_of made) function bytes) (f : Func) → slice_get made.funcs.items function ≡ Some f → h.f.name ≡ f.name.items
@@ -109,7 +105,7 @@ module _ (law : RefusedLaw) (made : Prog) (max_gap : Option ℕ) (is_source : Is
       let same : func_of made.types f ≡ h.f = cc in
       ap (λ (g : p.Func). g.name) (sym same)
 
-  frame_told : (function bytes : ℕ) (f : Func) (fault : SourceFault) (subject : Subject) → HasLargeFrame made max_gap function bytes → slice_get made.funcs.items function ≡ Some f
+  frame_told : (function bytes : ℕ) (f : Func) (fault : SourceFault) (subject : Subject) → IsLargeFrame (program_of made) function bytes → slice_get made.funcs.items function ≡ Some f
       → IsFrameTold f.name.items bytes fault subject → (source : List ℕ) → IsReady source made → IsRefused source fault × IsSubject source fault subject
   frame_told function bytes f (Line place why) subject h at told source r = absurd told
   frame_told function bytes f (Limit Source count) subject h at told source r = absurd told
@@ -121,7 +117,7 @@ module _ (law : RefusedLaw) (made : Prog) (max_gap : Option ℕ) (is_source : Is
   frame_told function bytes f (Limit Frame count) Whole h at told source r = absurd told
   frame_told function bytes f (Limit Frame count) (Declared place name) h at told source r = absurd told
   frame_told function bytes f (Limit Frame count) (Named name) h at told source r =
-      let large : IsLargeFrame (program_of made) function count = subst (λ n. IsLargeFrame (program_of made) function n) (sym told.0) (law.frame made max_gap function bytes is_source h) in (
+      let large : IsLargeFrame (program_of made) function count = subst (λ n. IsLargeFrame (program_of made) function n) (sym told.0) h in (
         record { prog = program_of made; program = r.program; function = function; large = large },
         record { prog = program_of made; program = r.program; function = function; large = large; is_name = told.1 ∙ sym (name_of_large function count large f at) },
       )
@@ -129,11 +125,11 @@ module _ (law : RefusedLaw) (made : Prog) (max_gap : Option ℕ) (is_source : Is
   frame_told function bytes f OutOfMemory (Named name) h at told source r = absurd told
   frame_told function bytes f OutOfMemory (Declared place name) h at told source r = absurd told
 
-  pub frame_refused : (function bytes : ℕ) (f : Func) (refused : Refused) → HasLargeFrame made max_gap function bytes → slice_get made.funcs.items function ≡ Some f
+  pub frame_refused : (function bytes : ℕ) (f : Func) (refused : Refused) → IsLargeFrame (program_of made) function bytes → slice_get made.funcs.items function ≡ Some f
       → IsFrameTold f.name.items bytes refused.fault refused.subject → (source : List ℕ) → IsReady source made → IsRefusedFor source refused
   frame_refused function bytes f refused h at told source r =
       let both = frame_told function bytes f refused.fault refused.subject h at told source r in
       record { is_fault = both.0; is_subject = both.1 }
 
-  pub code_refused : (bytes : ℕ) → IsFaultOf made max_gap (compile.Code bytes) → (source : List ℕ) → IsReady source made → IsRefusedFor source (as_whole (of_compile (compile.Code bytes)))
-  code_refused bytes h source r = record { is_fault = made_refused law source made max_gap (compile.Code bytes) r h; is_subject = refl }
+  pub code_refused : (bytes : ℕ) → IsLargeCode (program_of made) bytes → (source : List ℕ) → IsReady source made → IsRefusedFor source (as_whole (of_compile (compile.Code bytes)))
+  code_refused bytes h source r = record { is_fault = made_refused source made (compile.Code bytes) r h; is_subject = refl }

@@ -74,7 +74,7 @@ pub record IsCompiled (source : List ℕ) (options : Options) (built : Built) : 
   pub survives : (input : List ℕ) → IsInput input → IsRightFor (meaning_of prog (frames_of built) built.image) input → Survives built.image built.gap input
   -- and no memory beside that of the runtime, of the image's objects, its stack and the output is ever changed; no step changes
   -- the live register buffer, output that was shown, or the stack below x2
-  pub writes : (input : List ℕ) → IsInput input → IsRightFor (meaning_of prog (frames_of built) built.image) input → Writes built.image input
+  pub writes : (input : List ℕ) → IsInput input → IsRightFor (meaning_of prog (frames_of built) built.image) input → Writes built.image (frames_of built) input
   -- with power that never fails, whichever word the registers hold when it comes
   pub ending : (input : List ℕ) (fuel reason : ℕ) (status : ℤ) (output : List ℕ) (variables : List Variable) → IsInput input →
       meaning_of prog (frames_of built) built.image input fuel ≡ End reason status output variables → KeepsUninterrupted built.image built.gap input fuel reason status output variables

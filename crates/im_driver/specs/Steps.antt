@@ -29,6 +29,7 @@ use Rattle.im_compile.specs.declared.options.Options.{Options}
 use Rattle.im_compile.specs.declared.built.Built.{Built}
 use Rattle.im_compile.specs.Passed.{IsSource}
 use Rattle.im_compile.specs.Built.{IsBuilt}
+use Rattle.im_keeps_built.specs.Laws.{IsLargeFrame, IsLargeCode}
 use Rattle.im_driver.specs.declared.refused.Refused.{Refused}
 use Rattle.im_driver.specs.Compiled.{IsTreeOf, IsProgramOf, IsCompiledFrom}
 
@@ -82,6 +83,12 @@ IsDeepTold source spans u fault subject = ⊥
 
 abbrev pub IsTooDeep : List ℕ → List (ℕ × ℕ) → t.Tree → Refused → Type 0
 IsTooDeep source spans u refused = IsDeepTold source spans u refused.fault refused.subject
+
+-- a frame of the program, or its code, is too large for an image, and the program may need so much
+abbrev pub IsLargeFault : Prog → CompileFault → Type 0
+IsLargeFault prog (compile.Frame function bytes) = IsLargeFrame (program_of prog) function bytes
+IsLargeFault prog (compile.Code bytes) = IsLargeCode (program_of prog) bytes
+IsLargeFault prog compile.OutOfMemory = Unit {0}
 
 abbrev pub of_compile : CompileFault → SourceFault
 of_compile (compile.Frame function bytes) = Limit Frame bytes

@@ -4,11 +4,11 @@ ghost use Rattle.im_compile.specs.Passed.{IsGapOption};
 ghost use Rattle.im_driver.specs.Compiled.{IsCompiled, IsCompiledFrom, IsRefused};
 ghost use Rattle.im_driver.specs.Steps.{of_compile};
 
+use crate::building::{image_of, image_of_owned};
 use crate::checking::typed_program;
 use crate::laws::kept_law;
-use im_compile::{Built, CompileFault, Options, compile as compile_program, compile_owned};
+use im_compile::{Built, CompileFault, Options};
 use im_fault::{Quantity, SourceFault};
-use im_keeps_built::refused_law;
 use im_typed::Prog;
 use std::alloc::Global;
 
@@ -52,12 +52,11 @@ pub fn compile_whole(
         (λ whole. IsCompiledFrom source.now options whole.prog whole.built) (IsRefused source.now) }
 {
     kept_law();
-    refused_law();
     let prog = match typed_program(alloc, source) {
         Ok(prog) => prog,
         Err(refused) => return Err(refused.fault),
     };
-    match compile_program(alloc, &prog, options) {
+    match image_of(alloc, &prog, options) {
         Ok(built) => Ok(Compiled { prog, built }),
         Err(fault) => Err(unmade(fault)),
     }
@@ -73,12 +72,11 @@ pub fn compile(alloc: Global, source: &[u8], options: Options) -> Result<Built, 
     ensures { MatchResult result (IsCompiled source.now options) (IsRefused source.now) }
 {
     kept_law();
-    refused_law();
     let prog = match typed_program(alloc, source) {
         Ok(prog) => prog,
         Err(refused) => return Err(refused.fault),
     };
-    match compile_owned(alloc, prog, options) {
+    match image_of_owned(alloc, prog, options) {
         Ok(built) => Ok(built),
         Err(fault) => Err(unmade(fault)),
     }

@@ -1,6 +1,7 @@
 //! From a source to the image that keeps its meaning, or why it is refused.
 #![tactic(auto)]
 
+mod building;
 mod checking;
 mod compiling;
 mod laws;

@@ -1,19 +1,18 @@
-ghost use Rattle.std.specs.Prelude.{◌≡◌, ◌<◌, ◌≤◌, ℕ, List, Option, Some, MatchResult, length};
+ghost use Rattle.std.specs.Prelude.{◌≡◌, ◌<◌, ◌≤◌, ℕ, List, Some, MatchResult, length};
 ghost use Rattle.std.specs.Prelude.{slice_get};
 ghost use Rattle.im_mem.specs.Map.{stack_capacity, output_capacity};
 ghost use Rattle.im_typed.specs.declared.program.Func.{Func as FuncOf};
-ghost use Rattle.im_compile.specs.Faults.{IsFaultOf};
-ghost use Rattle.im_compile.specs.Passed.{IsGapOption, IsSource};
+ghost use Rattle.im_compile.specs.Passed.{IsGapOption};
 ghost use Rattle.im_driver.specs.Compiled.{IsCompiled};
 ghost use Rattle.im_driver.specs.Refused.{IsRefusedFor};
-ghost use Rattle.im_driver.specs.Steps.{IsFrameTold, IsReady};
+ghost use Rattle.im_driver.specs.Steps.{IsFrameTold, IsLargeFault, IsReady};
 
+use crate::building::image_of;
 use crate::checking::typed_program;
 use crate::laws::kept_law;
 use crate::refused::{Refused, whole};
-use im_compile::{Built, CompileFault, Options, compile as compile_program};
+use im_compile::{Built, CompileFault, Options};
 use im_fault::{Quantity, SourceFault, Subject};
-use im_keeps_built::refused_law;
 use im_typed::{Func, Prog};
 use std::alloc::Global;
 
@@ -37,11 +36,9 @@ fn large_frame(alloc: Global, functions: &[Func], number: usize, bytes: u64) -> 
 
 // Why a program has no image, and of which function that is so.
 fn unmade_named(alloc: Global, prog: &Prog, fault: CompileFault) -> Refused
-    requires source { IsSource prog.now }
-    requires fault { (max_gap : Option ℕ) × IsFaultOf prog.now max_gap fault }
+    requires { IsLargeFault prog.now fault }
     ensures { (source : List ℕ) → IsReady source prog.now → IsRefusedFor source result }
 {
-    refused_law();
     match fault {
         CompileFault::Frame { function, bytes } => {
             large_frame(alloc, &prog.funcs, function, bytes)
@@ -69,7 +66,7 @@ pub fn compile_named(alloc: Global, source: &[u8], options: Options) -> Result<B
         Ok(prog) => prog,
         Err(refused) => return Err(refused),
     };
-    match compile_program(alloc, &prog, options) {
+    match image_of(alloc, &prog, options) {
         Ok(built) => Ok(built),
         Err(fault) => Err(unmade_named(alloc, &prog, fault)),
     }

@@ -16,7 +16,7 @@ pub record GoesOn (source : List ℕ) (options : Options) (built : Built) (compi
   pub right : IsRightFor (meaning_of compiled.prog (frames_of built) built.image) input
   pub keeps : KeepsOn (meaning_of compiled.prog (frames_of built) built.image) built.image built.gap input
   pub survives : Survives built.image built.gap input
-  pub writes : Writes built.image input
+  pub writes : Writes built.image (frames_of built) input
 
 abbrev pub EndedLaw : Type 0
 EndedLaw = (source : List ℕ) (options : Options) (built : Built) (compiled : IsCompiled source options built) (input : List ℕ) →

@@ -2,7 +2,8 @@
 use Rattle.std.proofs.Common.{◌≡◌, ℕ, zero, suc, ◌*◌, ◌<◌, ◌≤◌, List, [], ◌∷◌, map, Option, Some, refl, sym, ap, ◌∙◌, subst, arith}
 use Rattle.std.specs.Prelude.{◌-◌, ◌^◌, min, option_map, slice_get}
 use Rattle.std.proofs.lemmas.Option.{slice_get-map}
-use Rattle.im_link.specs.Parts.{word_count}
+use Rattle.im_link.specs.Parts.{byte_count, word_count}
+use Rattle.im_link.specs.Code.{byte_limit, told_count}
 use Rattle.im_typed.specs.declared.program.Prog.{Prog}
 use Rattle.im_typed.specs.ProgramOf.{program_of}
 use Rattle.im_typed.specs.Program as p
@@ -14,8 +15,11 @@ use Rattle.im_keeps_source.specs.LoweringLaws.{LowersLaw}
 use Rattle.im_keeps_passes.specs.Laws.{CodeBounds}
 use Rattle.im_keeps_source.specs.MiddleLaws.{MiddleLaw}
 use Rattle.im_keeps_source.specs.Source.{source_of}
+use Rattle.im_compile.specs.declared.making.Made.{Made}
+use Rattle.im_compile.specs.declared.setting_out.Unlinked.{Unlinked}
 use Rattle.im_compile.specs.Passed.{IsSource, IsPassed}
-use Rattle.im_compile.specs.Faults.{HasLargeFrame, HasLargeCode}
+use Rattle.im_compile.specs.Faults.{IsFrameTooLarge}
+use Rattle.im_compile.specs.Made.{IsMade, IsUnlinkedFrom}
 use Rattle.im_keeps_built.specs.Laws.{IsLargeFrame, IsLargeCode, RefusedLaw}
 use Rattle.im_keeps_built.proofs.Chained.{lowers_in_registers}
 
@@ -43,30 +47,30 @@ module _ (lowers : LowersLaw) (middle : MiddleLaw) (words : WordsLaw) (prog : Pr
     recut = passed.recut;
   })
 
-  frame_refused : (max_gap : Option ℕ) (i bytes : ℕ) → HasLargeFrame prog max_gap i bytes → IsLargeFrame (program_of prog) i bytes
-  frame_refused max_gap i bytes h =
-      let b = bounds max_gap h.code h.passed in
-      let f = h.frame.f in
-      let there = at_same (λ (x : Function). x.need) (λ (x : p.Func). func_need x) h.code.functions.items (program_of prog).funcs i f b.needs h.frame.is_function in
-      let need = b.frames_fit i (func_need there.0) f (slice_get-map (λ (x : p.Func). func_need x) (program_of prog).funcs i ∙ ap (option_map (λ (x : p.Func). func_need x)) there.1) h.frame.is_function in
-      record { f = there.0; is_function = there.1; large = h.frame.large; need = subst (λ n. n ≤ func_need there.0) (sym h.frame.bytes_are) need }
+  frame_refused : (max_gap : Option ℕ) (made : Made) (i bytes : ℕ) → IsMade prog max_gap made → IsFrameTooLarge made.unit.functions.items i bytes → IsLargeFrame (program_of prog) i bytes
+  frame_refused max_gap made i bytes m h =
+      let fs = made.unit.functions.items in
+      let b = bounds max_gap made.unit m.passed in
+      let f = h.f in
+      let there = at_same (λ (x : Function). x.need) (λ (x : p.Func). func_need x) fs (program_of prog).funcs i f b.needs h.is_function in
+      let need = b.frames_fit i (func_need there.0) f (slice_get-map (λ (x : p.Func). func_need x) (program_of prog).funcs i ∙ ap (option_map (λ (x : p.Func). func_need x)) there.1) h.is_function in
+      record { f = there.0; is_function = there.1; large = h.large; need = subst (λ n. n ≤ func_need there.0) (sym h.bytes_are) need }
 
   told_within : (c n : ℕ) → 1044480 < 4 * c → n ≡ min (4 * c) (2 ^ 64 - 1) → (1044480 < n) × (n ≤ 4 * c)
   told_within c n large e = (omega (arith, large, e), omega (arith, large, e))
 
-  code_refused : (max_gap : Option ℕ) (bytes : ℕ) → HasLargeCode prog max_gap bytes → IsLargeCode (program_of prog) bytes
-  code_refused max_gap bytes h =
-      let a = h.assembled in
-      let b = bounds max_gap a.code a.passed in
-      let few = words a.code a.addresses a.layouts h.parts a.assemble b.apart in
+  code_refused : (max_gap : Option ℕ) (unlinked : Unlinked) (bytes : ℕ) (a : IsUnlinkedFrom prog max_gap unlinked) → byte_limit < byte_count a.set_out.parts → bytes ≡ told_count a.set_out.parts → IsLargeCode (program_of prog) bytes
+  code_refused max_gap unlinked bytes a large told =
+      let s = a.set_out in
+      let b = bounds max_gap a.made.unit a.is_made.passed in
+      let few = words a.made.unit unlinked.addresses.items s.layouts s.parts s.assemble b.apart in
       let cost = b.cost in
-      let told = told_within (word_count h.parts) bytes h.large h.told in
-      let least = told.0 in
-      let most = told.1 in
-      record { large = told.0; nodes = omega (arith, few, cost, most) }
+      let within = told_within (word_count s.parts) bytes large told in
+      let most = within.1 in
+      record { large = within.0; nodes = omega (arith, few, cost, most) }
 
 pub refused : LowersLaw → MiddleLaw → WordsLaw → RefusedLaw
 refused lowers middle words = record {
-  frame = λ prog max_gap i bytes s h. frame_refused lowers middle words prog s max_gap i bytes h;
-  code = λ prog max_gap bytes s h. code_refused lowers middle words prog s max_gap bytes h;
+  frame = λ prog max_gap made i bytes s m h. frame_refused lowers middle words prog s max_gap made i bytes m h;
+  code = λ prog max_gap unlinked bytes s a large told. code_refused lowers middle words prog s max_gap unlinked bytes a large told;
 }

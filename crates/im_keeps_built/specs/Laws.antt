@@ -1,6 +1,8 @@
 -- What is built of a program keeps it.
 use Rattle.std.specs.Prelude.{◌≡◌, ℕ, ◌+◌, ◌*◌, ◌<◌, ◌≤◌, List, Option, length, map, Some, slice_get}
 use Rattle.im_gap.specs.Gap.{recovery_steps, IsGap}
+use Rattle.im_link.specs.Parts.{byte_count}
+use Rattle.im_link.specs.Code.{byte_limit, told_count}
 use Rattle.im_typed.specs.declared.frames.Frame.{Frame}
 use Rattle.im_typed.specs.declared.program.Prog.{Prog}
 use Rattle.im_typed.specs.ProgramOf.{program_of}
@@ -10,9 +12,12 @@ use Rattle.im_pack_laws.specs.im_keeps_passes.Passes.{Selects}
 use Rattle.im_keeps_source.specs.Laws.{ProgramKeeps}
 use Rattle.im_compile.specs.declared.options.Options.{Options}
 use Rattle.im_compile.specs.declared.built.Built.{Built}
+use Rattle.im_compile.specs.declared.making.Made.{Made}
+use Rattle.im_compile.specs.declared.setting_out.Unlinked.{Unlinked}
 use Rattle.im_compile.specs.Passed.{IsSource}
 use Rattle.im_compile.specs.Built.{IsBuilt, bytes_of}
-use Rattle.im_compile.specs.Faults.{HasLargeFrame, HasLargeCode}
+use Rattle.im_compile.specs.Faults.{IsFrameTooLarge}
+use Rattle.im_compile.specs.Made.{IsMade, IsUnlinkedFrom}
 use Rattle.im_keeps_built.specs.Cuts.{AreCuts, AreGapsAsked}
 
 -- the bytes of each function's frame
@@ -51,7 +56,9 @@ pub record IsLargeCode (prog : Program) (bytes : ℕ) : Type 0 where
   pub large : 1044480 < bytes
   pub nodes : bytes ≤ 4096 + 256 * prog_nodes prog
 
--- a program that is refused by what is made of it is one that may need so much, by its own counts
+-- code that was made of a program, whose frame or whose parts are too large, is that of one that may need so much, by its own counts
 pub record RefusedLaw : Type 0 where
-  pub frame : (prog : Prog) (max_gap : Option ℕ) (i bytes : ℕ) → IsSource prog → HasLargeFrame prog max_gap i bytes → IsLargeFrame (program_of prog) i bytes
-  pub code : (prog : Prog) (max_gap : Option ℕ) (bytes : ℕ) → IsSource prog → HasLargeCode prog max_gap bytes → IsLargeCode (program_of prog) bytes
+  pub frame : (prog : Prog) (max_gap : Option ℕ) (made : Made) (i bytes : ℕ) → IsSource prog → IsMade prog max_gap made →
+      IsFrameTooLarge made.unit.functions.items i bytes → IsLargeFrame (program_of prog) i bytes
+  pub code : (prog : Prog) (max_gap : Option ℕ) (unlinked : Unlinked) (bytes : ℕ) → IsSource prog → (a : IsUnlinkedFrom prog max_gap unlinked) →
+      byte_limit < byte_count a.set_out.parts → bytes ≡ told_count a.set_out.parts → IsLargeCode (program_of prog) bytes

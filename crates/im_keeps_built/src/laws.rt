@@ -42,8 +42,8 @@ pub fn built_keeps_law()
     ready_law();
 }
 
-/// A program that is refused by a frame or by the code that is made of it is one that may need so
-/// much, by its own counts.
+/// A frame of code that was made of a program, or this code, is too large only where the program
+/// may need so much, by its own counts.
 pub fn refused_law()
     ensures { RefusedLaw }
 {

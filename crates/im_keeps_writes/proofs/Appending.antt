@@ -1,5 +1,5 @@
 -- Of the output's area a step changes no byte but the one behind what is shown, at whichever moment.
-use Rattle.std.proofs.Common.{◌≡◌, ◌≢◌, ℕ, suc, ◌+◌, ◌<◌, ◌≤◌, inl, inr, Bool, true, false, not, cond, Option, Some, None, is_some, length, refl, sym, ap, ◌∙◌, arith}
+use Rattle.std.proofs.Common.{◌≡◌, ◌≢◌, ℕ, suc, ◌+◌, ◌<◌, ◌≤◌, inl, inr, Bool, true, false, not, cond, List, Option, Some, None, is_some, length, refl, sym, ap, ◌∙◌, arith}
 use Rattle.std.specs.Prelude.{nat_eq, unwrap_or}
 use Rattle.std.proofs.lemmas.Bool.Decides.{nat_tests}
 use Rattle.im_num.specs.Bytes.{bytes_of}
@@ -48,7 +48,7 @@ some_is : (o : Option ℕ) → is_some o ≡ true → (v : ℕ) × (o ≡ Some v
 some_is None h = absurd (cc)
 some_is (Some v) h = (v, refl)
 
-module _ (image : ImageValue) (form : image.form ≡ TwoLengths) (run : ℕ → State) (code : ℕ) (u : IsSound run code) (o : ShowsSafely run) (fine : (t : ℕ) → IsFine image (run t)) where
+module _ (image : ImageValue) (frames : List ℕ) (form : image.form ≡ TwoLengths) (run : ℕ → State) (code : ℕ) (u : IsSound run code) (o : ShowsSafely run) (fine : (t : ℕ) → IsFine image frames (run t)) where
   mem_next : (t a : ℕ) → (run (suc t)).mem a ≡ unwrap_or (writes run t a) ((run t).mem a)
   mem_next t a = ap (λ (s : State). s.mem a) (u.steps t) ∙ step_mem (run t).cpu (run t).mem a
 

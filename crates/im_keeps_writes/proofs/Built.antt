@@ -1,5 +1,5 @@
 -- What is built writes no other memory.
-use Rattle.std.proofs.Common.{ℕ, ◌+◌, List, refl, subst, arith}
+use Rattle.std.proofs.Common.{ℕ, ◌+◌, List, refl, sym, subst, arith}
 use Rattle.im_replay.specs.Compiled.{RunsSafely}
 use Rattle.im_replay.specs.Output.{ShowsSafely}
 use Rattle.im_store.specs.Outcomes.{Outcome, IsDefined}
@@ -109,16 +109,16 @@ module _ (laws : Laws) (prog : Prog) (options : Options) (built : Built) (s : Is
       in_image : IsInImage built.image input b.code g linking
       in_image = laws.in_image b.code b.addresses b.layouts b.parts b.linked options.stack options.out_cap built.image input image_of fits
 
-      fine : (t : ℕ) → IsFine built.image (run_of built.image input t)
+      fine : (t : ℕ) → IsFine built.image (bytes_of b.layouts) (run_of built.image input t)
       fine t =
           let r = reaches (t + 1) (right (t + 1)) in
           fine_at laws.keeps laws.written built.image input b.code g linking fits able.well_formed in_image
           (laws.named b.code b.addresses b.linked options.stack options.out_cap built.image b.layouts b.parts input image_of.statics_are b.pack) refl refl safe
           (t + 1) r.outcome r.run r.defined r.runs t (omega arith)
 
-      writes_all : Writes built.image input
-      writes_all = all laws.written built.image input in_image.written fits safe shows fine
+      writes_all : Writes built.image (bytes_of b.layouts) input
+      writes_all = all laws.written built.image (bytes_of b.layouts) input in_image.written fits safe shows fine
 
 pub writes_law : Laws → BuiltWritesLaw
 writes_law laws prog options built s b input fits right safe shows =
-    writes_all laws prog options built s b input fits (subst (λ (l : List ℕ). IsRightFor (meaning_of (program_of prog) l built.image) input) b.frames.sizes right) safe shows
+    subst (λ (l : List ℕ). Writes built.image l input) (sym b.frames.sizes) (writes_all laws prog options built s b input fits (subst (λ (l : List ℕ). IsRightFor (meaning_of (program_of prog) l built.image) input) b.frames.sizes right) safe shows)

@@ -1,5 +1,5 @@
 -- A step leaves the stack below x2, at whichever moment.
-use Rattle.std.proofs.Common.{◌≡◌, ℕ, ◌+◌, ◌<◌, ◌≤◌, inl, inr, refl, ◌∙◌, subst, arith}
+use Rattle.std.proofs.Common.{◌≡◌, ℕ, ◌+◌, ◌<◌, ◌≤◌, inl, inr, List, refl, ◌∙◌, subst, arith}
 use Rattle.im_mem.specs.Memory.{Mem, little}
 use Rattle.im_rv.specs.declared.effect.Effect.TheVariants.{Stores}
 use Rattle.im_rv.specs.Steps.{Cpu}
@@ -17,7 +17,7 @@ use Rattle.im_keeps_writes.proofs.Fine.{IsFine}
 use Rattle.im_keeps_writes.proofs.Idle.{none_kept}
 use Rattle.im_keeps_writes.proofs.Appending.{buffer_low}
 
-module _ (image : ImageValue) (run : ℕ → State) (code : ℕ) (u : IsSound run code) (fine : (t : ℕ) → IsFine image (run t)) where
+module _ (image : ImageValue) (frames : List ℕ) (run : ℕ → State) (code : ℕ) (u : IsSound run code) (fine : (t : ℕ) → IsFine image frames (run t)) where
   -- a step that stands for that of time t
   pub like_spares : (t : ℕ) (c : Cpu) (m : Mem) → IsLike run t c m → Agrees (reads run) (memory run) (is_fixed code) t m → (a : ℕ) → 2097152 ≤ a → a < 3145728 → a < c.x 2 → (step_of c m).mem a ≡ m a
   like_spares t c m k g a low high below = elim (truth (saves_by (effect_at (run t)))) [

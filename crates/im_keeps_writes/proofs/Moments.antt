@@ -1,5 +1,5 @@
 -- What the run that never loses power doesn't write is at each moment of the others as it was loaded.
-use Rattle.std.proofs.Common.{◌≡◌, ◌≢◌, ℕ, zero, suc, ◌+◌, ◌<◌, ◌≤◌, inl, inr, Bool, true, false, List, [], ◌∷◌, Some, None, refl, sym, ap, ◌∙◌, arith}
+use Rattle.std.proofs.Common.{◌≡◌, ◌≢◌, ℕ, zero, suc, ◌+◌, ◌<◌, ◌≤◌, inl, inr, Bool, true, false, List, [], ◌∷◌, Some, None, refl, sym, ap, ◌∙◌, subst, arith}
 use Rattle.std.specs.Prelude.{◌-◌, ◌&&◌, ◌||◌, nat_le, nat_lt, unwrap_or, length}
 use Rattle.std.proofs.lemmas.Bool.{leb-true, and_parts}
 use Rattle.std.proofs.lemmas.Bool.Decides.{nat_tests}
@@ -7,6 +7,7 @@ use Rattle.im_mem.specs.Memory.{Mem}
 use Rattle.im_rv.specs.declared.step.Went.TheVariants.{On}
 use Rattle.im_rv.specs.Runs.{step_of}
 use Rattle.im_rv.proofs.Effecting.{step_mem}
+use Rattle.im_rv_reach.specs.Plain.{MovesBy}
 use Rattle.im_image.specs.Contents.{ImageValue, ObjectValue, AreObjects, IsImage}
 use Rattle.im_power.specs.declared.period.Period.{Period}
 use Rattle.im_device.specs.Load.{memory_of}
@@ -126,7 +127,7 @@ input_stays image is a low high =
 below_end : (a : ℕ) → nat_lt a 3145728 ≡ true → a < 3145728
 below_end a h = grind (arith, nat_tests)
 
-module _ (law : WrittenLaw) (image : ImageValue) (input : List ℕ) (written : IsWritten image) (fits : IsInput input) (safe : RunsSafely (run_of image input) (code_end image)) (shows : ShowsSafely (run_of image input)) (fine : (t : ℕ) → IsFine image (run_of image input t)) where
+module _ (law : WrittenLaw) (image : ImageValue) (frames : List ℕ) (input : List ℕ) (written : IsWritten image) (fits : IsInput input) (safe : RunsSafely (run_of image input) (code_end image)) (shows : ShowsSafely (run_of image input)) (fine : (t : ℕ) → IsFine image frames (run_of image input t)) where
   abbrev r : ℕ → State
   r = run_of image input
 
@@ -170,7 +171,7 @@ module _ (law : WrittenLaw) (image : ImageValue) (input : List ℕ) (written : I
   end_stays periods n junk a on far other =
       let x : Moment = within periods n junk (memory_of image input) in
       byte_stays (memory_of image input) (code_end image) replayable periods n junk a on (λ t g.
-      like_appends image written.form r (code_end image) (sound_run (memory_of image input) (code_end image) replayable) shows fine t x.mem g.tracks.mixed x.cpu g.regs (agrees_at (memory_of image input) (code_end image) replayable t x g) a far other)
+      like_appends image frames written.form r (code_end image) (sound_run (memory_of image input) (code_end image) replayable) shows fine t x.mem g.tracks.mixed x.cpu g.regs (agrees_at (memory_of image input) (code_end image) replayable t x g) a far other)
 
   free_stays : (periods : List Period) (n junk a : ℕ) → (within periods n junk (memory_of image input)).went ≡ On → IsFreeByte image (within periods n junk (memory_of image input)) a
       → (step_of (within periods n junk (memory_of image input)).cpu (within periods n junk (memory_of image input)).mem).mem a ≡ (within periods n junk (memory_of image input)).mem a
@@ -181,9 +182,12 @@ module _ (law : WrittenLaw) (image : ImageValue) (input : List ℕ) (written : I
       let low : 3145728 - image.stack ≤ a = leb-true _ _ stands.0 in
       let high : a < 3145728 = below_end a stands.1 in
       byte_stays (memory_of image input) (code_end image) replayable periods n junk a on (λ t g.
-      like_spares image r (code_end image) (sound_run (memory_of image input) (code_end image) replayable) fine t x.cpu x.mem g.regs (agrees_at (memory_of image input) (code_end image) replayable t x g) a (omega arith) high f.1)
+      like_spares image frames r (code_end image) (sound_run (memory_of image input) (code_end image) replayable) fine t x.cpu x.mem g.regs (agrees_at (memory_of image input) (code_end image) replayable t x g) a (omega arith) high f.1)
 
-  pub all : Writes image input
+  moved : (t next : ℕ) → next ≡ suc t → MovesBy frames ((r t).cpu.x 2) ((r next).cpu.x 2)
+  moved t next e = subst (λ z. MovesBy frames ((r t).cpu.x 2) z) (sym (ap (λ z. (r z).cpu.x 2) e ∙ ap (λ (s : State). s.cpu.x 2) (is_run (memory_of image input) t))) (fine t).moves
+
+  pub all : Writes image frames input
   all = record {
     same = same;
     code = λ periods a low high. same periods a (code_stays image written.is_image a low high);
@@ -201,4 +205,6 @@ module _ (law : WrittenLaw) (image : ImageValue) (input : List ℕ) (written : I
         let x : Moment = within periods n junk (memory_of image input) in
         let e = free_stays periods n junk a on f in
         (e, torn_keeps mask x.cpu x.mem a e);
+    begins = begun.sp;
+    moves = λ t. moved t (t + 1) (omega arith);
   }

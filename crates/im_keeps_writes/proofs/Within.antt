@@ -103,8 +103,8 @@ module _ (keeps : SelectKeeps) (written : WrittenLaw) (image : ImageValue) (inpu
     own = subst (AllTouched (IsOwn p u g)) in_turn (all_own p u g (touched j (first_cpu image input) p.image)
         (all_heard p u g run _ follows.touches (held p u g well within.linked (first_cpu image input).x begun.zero_reg begun.sp n o run k)))
 
-    plain : (t : ℕ) → t < j → IsPlain (r t).cpu (r t).mem
-    plain t lt = subst (λ (s : State). IsPlain s.cpu s.mem) (at t) (follows.plain t lt)
+    plain : (t : ℕ) → t < j → IsPlain g.frames (r t).cpu (r t).mem
+    plain t lt = subst (λ (s : State). IsPlain g.frames s.cpu s.mem) (at t) (follows.plain t lt)
 
     stored : (t b m v : ℕ) → effect_at (r t) ≡ Stores b m v → touches (r t).cpu (r t).mem ≡ Stored b m ∷ []
     stored t b m v e = touches_same (r t).cpu (r t).mem ∙ ap touch_of e
@@ -173,8 +173,8 @@ module _ (keeps : SelectKeeps) (written : WrittenLaw) (image : ImageValue) (inpu
           ]))
     ]
 
-    fine_before : (t : ℕ) → t < j → IsFine image (r t)
-    fine_before t lt = record { none = λ a out. none_before t a lt out; next = λ a v far w. next_before t a v lt far w; free = λ a low high below. free_before t a lt low high below }
+    fine_before : (t : ℕ) → t < j → IsFine image g.frames (r t)
+    fine_before t lt = record { none = λ a out. none_before t a lt out; next = λ a v far w. next_before t a v lt far w; free = λ a low high below. free_before t a lt low high below; moves = (plain t lt).moves }
 
     halted : (runs j (first_cpu image input) p.image).went ≡ Halted → EndsWithin r 0 j
     halted h =
@@ -182,18 +182,18 @@ module _ (keeps : SelectKeeps) (written : WrittenLaw) (image : ImageValue) (inpu
         ends_within r (is_run (memory_of image input)) j 0 (λ on. let bad : Halted ≡ On = sym h ∙ ap (λ (s : Stepped). s.went) same ∙ on in cc)
 
     -- behind the end all stays
-    fine_over : EndsWithin r 0 j → (t : ℕ) → IsFine image (r t)
+    fine_over : EndsWithin r 0 j → (t : ℕ) → IsFine image g.frames (r t)
     fine_over e t =
         let before = e.early in
         elim (order t e.e) [
           | inl lt ↦ fine_before t (omega arith)
-          | inr le ↦ subst (IsFine image) (sym (still r (is_run (memory_of image input)) e.e e.over t le)) (fine_before e.e (omega arith))
+          | inr le ↦ subst (IsFine image g.frames) (sym (still r (is_run (memory_of image input)) e.e e.over t le)) (fine_before e.e (omega arith))
         ]
 
-    fine_shown : (t : ℕ) → t < n → (q : Outcome) → Shows p u q n j (runs j (first_cpu image input) p.image) → IsFine image (r t)
+    fine_shown : (t : ℕ) → t < n → (q : Outcome) → Shows p u q n j (runs j (first_cpu image input) p.image) → IsFine image g.frames (r t)
     fine_shown t lt (End reason status output variables) s = fine_over (halted s.0) t
     fine_shown t lt (More output) s = fine_before t (let few = s.2 in omega arith)
     fine_shown t lt (Undef why) s = absurd s
 
-    pub fine_at : (t : ℕ) → t < n → IsFine image (r t)
+    pub fine_at : (t : ℕ) → t < n → IsFine image g.frames (r t)
     fine_at t lt = fine_shown t lt o follows.shows

@@ -21,4 +21,4 @@ BuiltWritesLaw =
     (prog : Prog) (options : Options) (built : Built) → IsSource prog → IsBuilt prog options built →
     (input : List ℕ) → IsInput input →
     IsRightFor (meaning_of (program_of prog) (map (λ (f : Frame). f.size) built.frames.frames.items) built.image) input →
-    RunsSafely (run_of built.image input) (code_end built.image) → ShowsSafely (run_of built.image input) → Writes built.image input
+    RunsSafely (run_of built.image input) (code_end built.image) → ShowsSafely (run_of built.image input) → Writes built.image (map (λ (f : Frame). f.size) built.frames.frames.items) input

@@ -5,6 +5,7 @@ use Rattle.im_mem.specs.Memory.{Mem}
 use Rattle.im_rv.specs.declared.step.Went.TheVariants.{On}
 use Rattle.im_rv.specs.Runs.{step_of}
 use Rattle.im_rv.specs.Torn.{torn_of}
+use Rattle.im_rv_reach.specs.Plain.{MovesBy}
 use Rattle.im_image.specs.Contents.{ImageValue, ObjectValue}
 use Rattle.im_power.specs.declared.period.Period.{Period}
 use Rattle.im_device.specs.Load.{memory_of}
@@ -13,6 +14,7 @@ use Rattle.im_device.specs.Run.{Moment, index_of}
 use Rattle.im_ckpt.specs.Buffers.{buffer, is_buffer}
 use Rattle.im_replay.specs.Replays.{within}
 use Rattle.im_keeps.specs.Keeps.{device_after}
+use Rattle.im_keeps_run.specs.Laws.{run_of}
 
 -- a byte of the words of the low page that the runtime stores: INDEX, STATUS, REASON and OUT_LEN0, which stand below OUT_CAP;
 -- IN_POS; OUT_LEN1 and the byte OUT_SEL. The settings OUT_CAP, IN_LEN and STACK_LIM are none of them
@@ -64,7 +66,8 @@ output_end image m = output_start + length (output_of image.form m)
 abbrev pub AppendsAtMost : ImageValue → Moment → Type 0
 AppendsAtMost image x = (mask a : ℕ) → output_start ≤ a → a ≢ output_end image x.mem → ((step_of x.cpu x.mem).mem a ≡ x.mem a) × (torn_of mask x.cpu x.mem a ≡ x.mem a)
 
-pub record Writes (image : ImageValue) (input : List ℕ) : Type 0 where
+-- of an image whose functions have frames of so many bytes
+pub record Writes (image : ImageValue) (frames : List ℕ) (input : List ℕ) : Type 0 where
   -- after every list of periods, and so at every moment, the one within a store among them: each other byte is as it was loaded
   pub same : (periods : List Period) (a : ℕ) → may_change image a ≡ false → (device_after image input periods).mem a ≡ memory_of image input a
   -- so are the code and all that lies between it and the statics
@@ -79,3 +82,6 @@ pub record Writes (image : ImageValue) (input : List ℕ) : Type 0 where
   pub appends : (periods : List Period) (n junk : ℕ) → (within periods n junk (memory_of image input)).went ≡ On → AppendsAtMost image (within periods n junk (memory_of image input))
   -- of the stack no byte below x2 is changed, at every moment with power on
   pub free : (periods : List Period) (n junk : ℕ) → (within periods n junk (memory_of image input)).went ≡ On → LeavesFree image (within periods n junk (memory_of image input))
+  -- in the run that never loses power, x2 begins at the stack's end, and each step leaves it or moves it by a function's frame
+  pub begins : (run_of image input 0).cpu.x 2 ≡ stack_end
+  pub moves : (t : ℕ) → MovesBy frames ((run_of image input t).cpu.x 2) ((run_of image input (t + 1)).cpu.x 2)

@@ -37,7 +37,7 @@ held_even image pc l h = even pc h.here
 pub jump : (image m : Mem) (pc : ℕ) (x : ℕ → ℕ) (to : ℕ) → Fixed image m → Holds image pc (instruction Jal 0 0 0 (distance pc to)) → to ≤ 1048576 → Ran 1 [] (at pc x) m (at to (with_reg x 0 (sum_of pc 4))) m
 jump image m pc x to fixed h low =
     let l = h.low in
-    leap_step image m pc x (instruction Jal 0 0 0 (distance pc to)) (sum_of pc 4) to fixed h (ap (λ z. Puts (sum_of pc 4) z) (leads pc to (omega arith) (omega arith))) (no_back pc (instruction Jal 0 0 0 (distance pc to)) m to refl)
+    leap_step image m pc x (instruction Jal 0 0 0 (distance pc to)) (sum_of pc 4) to fixed h (ap (λ z. Puts (sum_of pc 4) z) (leads pc to (omega arith) (omega arith))) (no_back pc (instruction Jal 0 0 0 (distance pc to)) m to refl) refl
 
 -- bne to a label: not taken, taken
 pub same_on : (image m : Mem) (pc : ℕ) (x : ℕ → ℕ) (a b imm : ℕ) → Fixed image m → Holds image pc (instruction Bne 0 a b imm) → (x a == x b) ≡ true → Ran 1 [] (at pc x) m (at (pc + 4) x) m
@@ -63,7 +63,7 @@ full_to image m pc x a b to fixed h e low =
 pub return : (image m : Mem) (pc : ℕ) (x : ℕ → ℕ) (back : ℕ) → Fixed image m → Holds image pc (instruction Jalr 0 1 0 0) → x 1 ≡ back → back % 4 ≡ 0 → back ≤ 1048576 → IsBehindCall image back → Ran 1 [] (at pc x) m (at back (with_reg x 0 (sum_of pc 4))) m
 return image m pc x back fixed h e even low behind =
     let q : sum_of back 0 - sum_of back 0 % 2 ≡ back = omega arith in
-    leap_step image m pc x (instruction Jalr 0 1 0 0) (sum_of pc 4) back fixed h (ap (λ z. Puts (sum_of pc 4) (sum_of z 0 - sum_of z 0 % 2)) e ∙ ap (λ z. Puts (sum_of pc 4) z) q) (λ out is. behind_kept image m back fixed behind)
+    leap_step image m pc x (instruction Jalr 0 1 0 0) (sum_of pc 4) back fixed h (ap (λ z. Puts (sum_of pc 4) (sum_of z 0 - sum_of z 0 % 2)) e ∙ ap (λ z. Puts (sum_of pc 4) z) q) (λ out is. behind_kept image m back fixed behind) refl
 
 -- a cut that saves x1, x2 and x5 to x10
 pub record Committed (m : Mem) (pc : ℕ) (x : ℕ → ℕ) : Type 0 where
@@ -83,7 +83,7 @@ commit image place has m pc x h fixed x0 index bytes =
     let there : sum_of pc (distance pc (place 10)) ≡ entry_at 10 = ap (λ z. sum_of pc (distance pc z)) to ∙ leads pc (entry_at 10) (omega arith) (omega arith) in
     let link : x1 3 ≡ pc + 4 = same_reg x 3 (sum_of pc 4) (omega arith) ∙ next_pc image pc (instruction Jal 3 0 0 (distance pc (place 10))) h in
     let even : x1 3 % 4 ≡ 0 = ap (λ z. z % 4) link ∙ held_even image pc (instruction Jal 3 0 0 (distance pc (place 10))) h in
-    let call : Ran 1 [] (at pc x) m (at (entry_at 10) x1) m = leap_step image m pc x (instruction Jal 3 0 0 (distance pc (place 10))) (sum_of pc 4) (entry_at 10) fixed h (ap (λ z. Puts (sum_of pc 4) z) there) (no_back pc (instruction Jal 3 0 0 (distance pc (place 10))) m (entry_at 10) refl) in
+    let call : Ran 1 [] (at pc x) m (at (entry_at 10) x1) m = leap_step image m pc x (instruction Jal 3 0 0 (distance pc (place 10))) (sum_of pc 4) (entry_at 10) fixed h (ap (λ z. Puts (sum_of pc 4) z) there) (no_back pc (instruction Jal 3 0 0 (distance pc (place 10))) m (entry_at 10) refl) refl in
     let s = saving image m x1 10 (routine_of image has.checkpoint) (omega arith) (omega arith) fixed (other_reg x 3 (sum_of pc 4) 0 (omega arith) ∙ x0) even (subst (λ z. z ≤ 1048576) (sym link) (omega arith)) index bytes in
     record {
       y = s.y;

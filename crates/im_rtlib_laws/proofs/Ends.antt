@@ -35,7 +35,7 @@ stack_law image place has m x fixed x0 =
     let x1 : ℕ → ℕ = with_reg x 5 1 in
     let k : Mem = written m 8 (bytes_of 4 1) in
     then_stops 1 2 [] (Stored 8 4 ∷ []) _ _ m m k
-    (puts image m p x (instruction Addi 5 0 0 1) 1 fixed s0.0 (ap (λ z. Puts (sum_of z 1) (sum_of p 4)) x0) refl)
+    (puts image m p x (instruction Addi 5 0 0 1) 1 fixed s0.0 (ap (λ z. Puts (sum_of z 1) (sum_of p 4)) x0) refl (inl refl))
     (then_stops 1 1 (Stored 8 4 ∷ []) [] _ _ m k k
     (stores image m (p + 4) x1 (instruction Sw 0 0 5 8) 8 4 1 fixed s1.0 (ap (λ z. Stores (sum_of z 8) 4 1) x0) refl (output_told m 8 4 1 (omega arith)) (low_store (in_runtime (p + 4)) 8 4 (omega arith) (omega arith)) (inl (omega arith)))
     (halts image k (p + 4 + 4) x1 (instruction Ebreak 0 0 0 0) (told_fixed image m 8 1 (omega arith) fixed) s2.0 refl))

@@ -85,10 +85,10 @@ module _ (image : Mem) (place : ℕ → ℕ) (has : HasRoutines image place) (p 
       let x2 : ℕ → ℕ = with_reg x1 6 (little m 20 4) in
       let x3 : ℕ → ℕ = with_reg x2 10 0xFFFFFFFF in
       let end = lines.l10.low in
-      let s0 : Ran 1 (Loaded 24 4 ∷ []) (at (spot p 0) x) m (at (spot p 1) x1) m = load_step image m (spot p 0) x (instruction Lw 5 0 0 24) 24 4 fixed lines.l0 (ap (λ z. Loads (sum_of z 24) 4 Zero) x0) refl refl in
-      let s1 : Ran 1 (Loaded 20 4 ∷ []) (at (spot p 1) x1) m (at (spot p 2) x2) m = load_step image m (spot p 1) x1 (instruction Lw 6 0 0 20) 20 4 fixed lines.l1 (ap (λ z. Loads (sum_of z 20) 4 Zero) x0) refl refl in
+      let s0 : Ran 1 (Loaded 24 4 ∷ []) (at (spot p 0) x) m (at (spot p 1) x1) m = load_step image m (spot p 0) x (instruction Lw 5 0 0 24) 24 4 fixed lines.l0 (ap (λ z. Loads (sum_of z 24) 4 Zero) x0) refl refl refl in
+      let s1 : Ran 1 (Loaded 20 4 ∷ []) (at (spot p 1) x1) m (at (spot p 2) x2) m = load_step image m (spot p 1) x1 (instruction Lw 6 0 0 20) 20 4 fixed lines.l1 (ap (λ z. Loads (sum_of z 20) 4 Zero) x0) refl refl refl in
       let s2 : Ran 1 [] (at (spot p 2) x2) m (at (spot p 10) x2) m = full_to image m (spot p 2) x2 5 6 (spot p 10) fixed lines.l2 none_left (omega arith) in
-      let s3 : Ran 1 [] (at (spot p 10) x2) m (at (spot p 11) x3) m = put_step image m (spot p 10) x2 (instruction Addi 10 0 0 0xFFFFFFFF) 0xFFFFFFFF fixed lines.l10 (ap (λ z. Puts (sum_of z 0xFFFFFFFF) (sum_of (spot p 10) 4)) x0) refl in
+      let s3 : Ran 1 [] (at (spot p 10) x2) m (at (spot p 11) x3) m = put_step image m (spot p 10) x2 (instruction Addi 10 0 0 0xFFFFFFFF) 0xFFFFFFFF fixed lines.l10 (ap (λ z. Puts (sum_of z 0xFFFFFFFF) (sum_of (spot p 10) 4)) x0) refl refl in
       let s4 : Ran 1 [] (at (spot p 11) x3) m (at back (with_reg x3 0 (sum_of (spot p 11) 4))) m = return image m (spot p 11) x3 back fixed lines.l11 link even low behind in
       let none = none_reg x3 (sum_of (spot p 11) 4) in
       record {
@@ -124,14 +124,14 @@ module _ (image : Mem) (place : ℕ → ℕ) (has : HasRoutines image place) (p 
       let sum : sum_of 3145728 (little m 24 4) ≡ a = ap (sum_of 3145728) pos ∙ (let q : sum_of 3145728 n ≡ 3145728 + n = omega arith in q) in
       let there : sum_of a 0 ≡ a = omega arith in
       let next : sum_of (little m 24 4) 1 ≡ suc n = ap (λ z. sum_of z 1) pos ∙ (let q : sum_of n 1 ≡ suc n = omega arith in q) in
-      let s0 : Ran 1 (Loaded 24 4 ∷ []) (at (spot p 0) x) m (at (spot p 1) x1) m = load_step image m (spot p 0) x (instruction Lw 5 0 0 24) 24 4 fixed lines.l0 (ap (λ z. Loads (sum_of z 24) 4 Zero) x0) refl refl in
-      let s1 : Ran 1 (Loaded 20 4 ∷ []) (at (spot p 1) x1) m (at (spot p 2) x2) m = load_step image m (spot p 1) x1 (instruction Lw 6 0 0 20) 20 4 fixed lines.l1 (ap (λ z. Loads (sum_of z 20) 4 Zero) x0) refl refl in
+      let s0 : Ran 1 (Loaded 24 4 ∷ []) (at (spot p 0) x) m (at (spot p 1) x1) m = load_step image m (spot p 0) x (instruction Lw 5 0 0 24) 24 4 fixed lines.l0 (ap (λ z. Loads (sum_of z 24) 4 Zero) x0) refl refl refl in
+      let s1 : Ran 1 (Loaded 20 4 ∷ []) (at (spot p 1) x1) m (at (spot p 2) x2) m = load_step image m (spot p 1) x1 (instruction Lw 6 0 0 20) 20 4 fixed lines.l1 (ap (λ z. Loads (sum_of z 20) 4 Zero) x0) refl refl refl in
       let s2 : Ran 1 [] (at (spot p 2) x2) m (at (spot p 3) x2) m = less_on image m (spot p 2) x2 5 6 (distance (spot p 2) (spot p 10)) fixed lines.l2 (ap (λ z. nat_lt z (little m 20 4)) pos ∙ some) in
-      let s3 : Ran 1 [] (at (spot p 3) x2) m (at (spot p 4) x3) m = put_step image m (spot p 3) x2 (instruction Lui 6 0 0 0x300) 3145728 fixed lines.l3 refl refl in
-      let s4 : Ran 1 [] (at (spot p 4) x3) m (at (spot p 5) x4) m = put_step image m (spot p 4) x3 (instruction Add 6 6 5 0) a fixed lines.l4 (ap (λ z. Puts z (sum_of (spot p 4) 4)) sum) refl in
-      let s5 : Ran 1 (seen (Loaded a 1 ∷ [])) (at (spot p 5) x4) m (at (spot p 6) x5) m = load_step image m (spot p 5) x4 (instruction Lbu 10 6 0 0) a 1 fixed lines.l5 (ap (λ z. Loads z 1 Zero) there) (byte_place a (omega arith)) (data_load (in_runtime (spot p 5)) a 1 (omega arith)) in
+      let s3 : Ran 1 [] (at (spot p 3) x2) m (at (spot p 4) x3) m = put_step image m (spot p 3) x2 (instruction Lui 6 0 0 0x300) 3145728 fixed lines.l3 refl refl refl in
+      let s4 : Ran 1 [] (at (spot p 4) x3) m (at (spot p 5) x4) m = put_step image m (spot p 4) x3 (instruction Add 6 6 5 0) a fixed lines.l4 (ap (λ z. Puts z (sum_of (spot p 4) 4)) sum) refl refl in
+      let s5 : Ran 1 (seen (Loaded a 1 ∷ [])) (at (spot p 5) x4) m (at (spot p 6) x5) m = load_step image m (spot p 5) x4 (instruction Lbu 10 6 0 0) a 1 fixed lines.l5 (ap (λ z. Loads z 1 Zero) there) (byte_place a (omega arith)) (data_load (in_runtime (spot p 5)) a 1 (omega arith)) refl in
       let s5' : Ran 1 (Loaded a 1 ∷ []) (at (spot p 5) x4) m (at (spot p 6) x5) m = subst (λ us. Ran 1 us (at (spot p 5) x4) m (at (spot p 6) x5) m) (byte_loaded a (omega arith)) s5 in
-      let s6 : Ran 1 [] (at (spot p 6) x5) m (at (spot p 7) x6) m = put_step image m (spot p 6) x5 (instruction Addi 5 5 0 1) (suc n) fixed lines.l6 (ap (λ z. Puts z (sum_of (spot p 6) 4)) next) refl in
+      let s6 : Ran 1 [] (at (spot p 6) x5) m (at (spot p 7) x6) m = put_step image m (spot p 6) x5 (instruction Addi 5 5 0 1) (suc n) fixed lines.l6 (ap (λ z. Puts z (sum_of (spot p 6) 4)) next) refl refl in
       let c : Committed m (spot p 7) x6 = commit image place has m (spot p 7) x6 lines.l7 fixed x0 index bytes in
       let k : Mem = c.k in
       let m1 : Mem = written k 24 (bytes_of 4 (suc n)) in

@@ -160,10 +160,10 @@ module _ (image : Mem) (place : ℕ → ℕ) (has : HasRoutines image place) (p 
       let x2 : ℕ → ℕ = with_reg x1 5 (little m 36 1) in
       let x3 : ℕ → ℕ = with_reg x2 6 (little m 12 4) in
       let end = lines.l6.low in
-      let s0 : Ran 1 [] (at (spot p 0) x) m (at (spot p 1) x1) m = put_step image m (spot p 0) x (instruction Andi 10 10 0 255) (bit_and (x 10) 255) fixed lines.l0 refl refl in
-      let s1 : Ran 1 (Loaded 36 1 ∷ []) (at (spot p 1) x1) m (at (spot p 2) x2) m = load_step image m (spot p 1) x1 (instruction Lbu 5 0 0 36) 36 1 fixed lines.l1 (ap (λ z. Loads (sum_of z 36) 1 Zero) x0) refl refl in
+      let s0 : Ran 1 [] (at (spot p 0) x) m (at (spot p 1) x1) m = put_step image m (spot p 0) x (instruction Andi 10 10 0 255) (bit_and (x 10) 255) fixed lines.l0 refl refl refl in
+      let s1 : Ran 1 (Loaded 36 1 ∷ []) (at (spot p 1) x1) m (at (spot p 2) x2) m = load_step image m (spot p 1) x1 (instruction Lbu 5 0 0 36) 36 1 fixed lines.l1 (ap (λ z. Loads (sum_of z 36) 1 Zero) x0) refl refl refl in
       let s2 : Ran 1 [] (at (spot p 2) x2) m (at (spot p 3) x2) m = same_on image m (spot p 2) x2 5 0 (distance (spot p 2) (spot p 5)) fixed lines.l2 (zero_is m (x 0) true x0 e) in
-      let s3 : Ran 1 (Loaded 12 4 ∷ []) (at (spot p 3) x2) m (at (spot p 4) x3) m = load_step image m (spot p 3) x2 (instruction Lw 6 0 0 12) 12 4 fixed lines.l3 (ap (λ z. Loads (sum_of z 12) 4 Zero) x0) refl refl in
+      let s3 : Ran 1 (Loaded 12 4 ∷ []) (at (spot p 3) x2) m (at (spot p 4) x3) m = load_step image m (spot p 3) x2 (instruction Lw 6 0 0 12) 12 4 fixed lines.l3 (ap (λ z. Loads (sum_of z 12) 4 Zero) x0) refl refl refl in
       let s4 : Ran 1 [] (at (spot p 4) x3) m (at (spot p 6) (with_reg x3 0 (sum_of (spot p 4) 4))) m = jump image m (spot p 4) x3 (spot p 6) fixed lines.l4 (omega arith) in
       let none = none_reg x3 (sum_of (spot p 4) 4) in
       record {
@@ -183,10 +183,10 @@ module _ (image : Mem) (place : ℕ → ℕ) (has : HasRoutines image place) (p 
       let x2 : ℕ → ℕ = with_reg x1 5 (little m 36 1) in
       let x3 : ℕ → ℕ = with_reg x2 6 (little m 32 4) in
       let end = lines.l5.low in
-      let s0 : Ran 1 [] (at (spot p 0) x) m (at (spot p 1) x1) m = put_step image m (spot p 0) x (instruction Andi 10 10 0 255) (bit_and (x 10) 255) fixed lines.l0 refl refl in
-      let s1 : Ran 1 (Loaded 36 1 ∷ []) (at (spot p 1) x1) m (at (spot p 2) x2) m = load_step image m (spot p 1) x1 (instruction Lbu 5 0 0 36) 36 1 fixed lines.l1 (ap (λ z. Loads (sum_of z 36) 1 Zero) x0) refl refl in
+      let s0 : Ran 1 [] (at (spot p 0) x) m (at (spot p 1) x1) m = put_step image m (spot p 0) x (instruction Andi 10 10 0 255) (bit_and (x 10) 255) fixed lines.l0 refl refl refl in
+      let s1 : Ran 1 (Loaded 36 1 ∷ []) (at (spot p 1) x1) m (at (spot p 2) x2) m = load_step image m (spot p 1) x1 (instruction Lbu 5 0 0 36) 36 1 fixed lines.l1 (ap (λ z. Loads (sum_of z 36) 1 Zero) x0) refl refl refl in
       let s2 : Ran 1 [] (at (spot p 2) x2) m (at (spot p 5) x2) m = apart_to image m (spot p 2) x2 5 0 (spot p 5) fixed lines.l2 (zero_is m (x 0) false x0 e) (omega arith) in
-      let s3 : Ran 1 (Loaded 32 4 ∷ []) (at (spot p 5) x2) m (at (spot p 6) x3) m = load_step image m (spot p 5) x2 (instruction Lw 6 0 0 32) 32 4 fixed lines.l5 (ap (λ z. Loads (sum_of z 32) 4 Zero) x0) refl refl in
+      let s3 : Ran 1 (Loaded 32 4 ∷ []) (at (spot p 5) x2) m (at (spot p 6) x3) m = load_step image m (spot p 5) x2 (instruction Lw 6 0 0 32) 32 4 fixed lines.l5 (ap (λ z. Loads (sum_of z 32) 4 Zero) x0) refl refl refl in
       record {
         n = 4;
         few = omega arith;
@@ -214,9 +214,9 @@ module _ (image : Mem) (place : ℕ → ℕ) (has : HasRoutines image place) (p 
       let x1 : ℕ → ℕ = with_reg x 7 (little m 16 4) in
       let x2 : ℕ → ℕ = with_reg x1 10 0xFFFFFFFF in
       let end = lines.l22.low in
-      let s0 : Ran 1 (Loaded 16 4 ∷ []) (at (spot p 6) x) m (at (spot p 7) x1) m = load_step image m (spot p 6) x (instruction Lw 7 0 0 16) 16 4 fixed lines.l6 (ap (λ z. Loads (sum_of z 16) 4 Zero) x0) refl refl in
+      let s0 : Ran 1 (Loaded 16 4 ∷ []) (at (spot p 6) x) m (at (spot p 7) x1) m = load_step image m (spot p 6) x (instruction Lw 7 0 0 16) 16 4 fixed lines.l6 (ap (λ z. Loads (sum_of z 16) 4 Zero) x0) refl refl refl in
       let s1 : Ran 1 [] (at (spot p 7) x1) m (at (spot p 22) x1) m = full_to image m (spot p 7) x1 6 7 (spot p 22) fixed lines.l7 full (omega arith) in
-      let s2 : Ran 1 [] (at (spot p 22) x1) m (at (spot p 23) x2) m = put_step image m (spot p 22) x1 (instruction Addi 10 0 0 0xFFFFFFFF) 0xFFFFFFFF fixed lines.l22 (ap (λ z. Puts (sum_of z 0xFFFFFFFF) (sum_of (spot p 22) 4)) x0) refl in
+      let s2 : Ran 1 [] (at (spot p 22) x1) m (at (spot p 23) x2) m = put_step image m (spot p 22) x1 (instruction Addi 10 0 0 0xFFFFFFFF) 0xFFFFFFFF fixed lines.l22 (ap (λ z. Puts (sum_of z 0xFFFFFFFF) (sum_of (spot p 22) 4)) x0) refl refl in
       let s3 : Ran 1 [] (at (spot p 23) x2) m (at back (with_reg x2 0 (sum_of (spot p 23) 4))) m = return image m (spot p 23) x2 back fixed lines.l23 link even low behind in
       let none = none_reg x2 (sum_of (spot p 23) 4) in
       record {
@@ -293,13 +293,13 @@ module _ (image : Mem) (place : ℕ → ℕ) (has : HasRoutines image place) (p 
       let sum : sum_of 4194304 (x 6) ≡ a = ap (sum_of 4194304) x6 ∙ (let q : sum_of 4194304 n ≡ 4194304 + n = omega arith in q) in
       let there : sum_of a 0 ≡ a = omega arith in
       let next : sum_of (x 6) 1 ≡ suc n = ap (λ z. sum_of z 1) x6 ∙ (let q : sum_of n 1 ≡ suc n = omega arith in q) in
-      let s0 : Ran 1 (Loaded 16 4 ∷ []) (at (spot p 6) x) m (at (spot p 7) x1) m = load_step image m (spot p 6) x (instruction Lw 7 0 0 16) 16 4 fixed lines.l6 (ap (λ z. Loads (sum_of z 16) 4 Zero) x0) refl refl in
+      let s0 : Ran 1 (Loaded 16 4 ∷ []) (at (spot p 6) x) m (at (spot p 7) x1) m = load_step image m (spot p 6) x (instruction Lw 7 0 0 16) 16 4 fixed lines.l6 (ap (λ z. Loads (sum_of z 16) 4 Zero) x0) refl refl refl in
       let s1 : Ran 1 [] (at (spot p 7) x1) m (at (spot p 8) x1) m = less_on image m (spot p 7) x1 6 7 (distance (spot p 7) (spot p 22)) fixed lines.l7 (ap (λ z. nat_lt z (little m 16 4)) x6 ∙ room) in
-      let s2 : Ran 1 [] (at (spot p 8) x1) m (at (spot p 9) x2) m = put_step image m (spot p 8) x1 (instruction Lui 7 0 0 0x400) 4194304 fixed lines.l8 refl refl in
-      let s3 : Ran 1 [] (at (spot p 9) x2) m (at (spot p 10) x3) m = put_step image m (spot p 9) x2 (instruction Add 7 7 6 0) a fixed lines.l9 (ap (λ z. Puts z (sum_of (spot p 9) 4)) sum) refl in
+      let s2 : Ran 1 [] (at (spot p 8) x1) m (at (spot p 9) x2) m = put_step image m (spot p 8) x1 (instruction Lui 7 0 0 0x400) 4194304 fixed lines.l8 refl refl refl in
+      let s3 : Ran 1 [] (at (spot p 9) x2) m (at (spot p 10) x3) m = put_step image m (spot p 9) x2 (instruction Add 7 7 6 0) a fixed lines.l9 (ap (λ z. Puts z (sum_of (spot p 9) 4)) sum) refl refl in
       let s4 : Ran 1 (seen (Stored a 1 ∷ [])) (at (spot p 10) x3) m (at (spot p 11) x3) m1 = store_step image m (spot p 10) x3 (instruction Sb 0 7 10 0) a 1 v fixed lines.l10 (ap (λ z. Stores z 1 (x 10)) there ∙ ap (λ z. Stores a 1 z) x10) (byte_place a (omega arith)) (begins_same (shown m) (shown m1) same) (data_allowed (in_runtime (spot p 10)) a 1 (omega arith)) (next_byte m m1 n long small room) (inr (inr (omega arith))) in
       let s4' : Ran 1 (Stored a 1 ∷ []) (at (spot p 10) x3) m (at (spot p 11) x3) m1 = subst (λ us. Ran 1 us (at (spot p 10) x3) m (at (spot p 11) x3) m1) (byte_stored a (omega arith)) s4 in
-      let s5 : Ran 1 [] (at (spot p 11) x3) m1 (at (spot p 12) x4) m1 = put_step image m1 (spot p 11) x3 (instruction Addi 6 6 0 1) (suc n) fixed1 lines.l11 (ap (λ z. Puts z (sum_of (spot p 11) 4)) next) refl in
+      let s5 : Ran 1 [] (at (spot p 11) x3) m1 (at (spot p 12) x4) m1 = put_step image m1 (spot p 11) x3 (instruction Addi 6 6 0 1) (suc n) fixed1 lines.l11 (ap (λ z. Puts z (sum_of (spot p 11) 4)) next) refl refl in
       let c : Committed m1 (spot p 12) x4 = commit image place has m1 (spot p 12) x4 lines.l12 fixed1 x0 (subst (λ z. z < 2) (sym (word 0 (omega arith))) index) (written-small m a 1 v bytes) in
       record {
         at_byte = record {
@@ -392,7 +392,7 @@ module _ (image : Mem) (place : ℕ → ℕ) (has : HasRoutines image place) (p 
       let y1 : ℕ → ℕ = with_reg x 5 v in
       let m1 : Mem = written m 36 (bytes_of 1 v) in
       let fixed1 : Fixed image m1 = fixed_by m 36 1 v (inl (omega arith)) fixed in
-      let s0 : Ran 1 [] (at (spot p 18) x) m (at (spot p 19) y1) m = put_step image m (spot p 18) x (instruction Sltiu 5 5 0 1) v fixed lines.l18 (ap (λ z. Puts z (sum_of (spot p 18) 4)) (tested (x 5) b x5)) refl in
+      let s0 : Ran 1 [] (at (spot p 18) x) m (at (spot p 19) y1) m = put_step image m (spot p 18) x (instruction Sltiu 5 5 0 1) v fixed lines.l18 (ap (λ z. Puts z (sum_of (spot p 18) 4)) (tested (x 5) b x5)) refl refl in
       let s1 : Ran 1 (Stored 36 1 ∷ []) (at (spot p 19) y1) m (at (spot p 20) y1) m1 = store_step image m (spot p 19) y1 (instruction Sb 0 0 5 36) 36 1 v fixed lines.l19 (ap (λ z. Stores (sum_of z 36) 1 v) x0) refl more refl (due_beside m m1 36 1 (omega arith) (inr (omega arith)) (inr (omega arith)) (unset_above 36 1 (omega arith)) (omega arith)) (inl (omega arith)) in
       let c : Committed m1 (spot p 20) y1 = commit image place has m1 (spot p 20) y1 lines.l20 fixed1 x0 (subst (λ z. z < 2) (sym (little-other m 36 1 v 0 4 (inl (omega arith)))) index) (written-small m 36 1 v bytes) in
       let fixed2 : Fixed image c.k = kept_fixed image m1 c.k c.kept fixed1 in

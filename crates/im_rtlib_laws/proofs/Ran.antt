@@ -1,5 +1,5 @@
 -- Runs in parts, with what is seen of what they touch.
-use Rattle.std.proofs.Common.{◌≡◌, ℕ, zero, suc, ◌+◌, ◌<◌, ◌≤◌, Bool, true, false, cond, List, [], ◌∷◌, ◌++◌, refl, sym, ap, ◌∙◌, arith}
+use Rattle.std.proofs.Common.{◌≡◌, ℕ, zero, suc, ◌+◌, ◌<◌, ◌≤◌, Bool, true, false, cond, List, [], ◌∷◌, ◌++◌, refl, sym, ap, ◌∙◌, arith, inl}
 use Rattle.std.specs.Prelude.{◌==◌, ◌&&◌, ◌||◌, nat_le}
 use Rattle.std.proofs.lemmas.Bool.Decides.{nat_tests}
 use Rattle.std.proofs.lemmas.List.{append-nil}
@@ -57,10 +57,10 @@ heard_seen (Flipped ∷ ts) = ap (λ l. Flipped ∷ l) (heard_seen ts)
 
 -- ---- runs
 
--- n steps lead from one state to another, and this is seen of what they touch
+-- n steps lead from one state to another, none of which moves the stack pointer, and this is seen of what they touch
 pub record Ran (n : ℕ) (us : List Touch) (c : Cpu) (m : Mem) (d : Cpu) (k : Mem) : Type 0 where
   pub ts : List Touch
-  pub reach : Reach n ts c m d k
+  pub reach : Reach [] n ts c m d k
   pub saw : seen ts ≡ us
 
 abbrev pub at : ℕ → (ℕ → ℕ) → Cpu
@@ -76,18 +76,18 @@ follow {n} {l} {us} {vs} {c} {d} {e} {m} {k} {h} a b = record {
   saw = seen-append a.ts b.ts ∙ ap (λ z. z ++ seen b.ts) a.saw ∙ ap (λ z. us ++ z) b.saw;
 }
 
-pub put_step : (image m : Mem) (pc : ℕ) (x : ℕ → ℕ) (l : Line) (v : ℕ) → Fixed image m → Holds image pc l → row l.op pc (x l.rs1) (x l.rs2) l.imm ≡ Puts v (sum_of pc 4) → returns_by l.op ≡ false → Ran 1 [] (at pc x) m (at (pc + 4) (with_reg x l.rd v)) m
-put_step image m pc x l v fixed h e on = record { ts = []; reach = puts image m pc x l v fixed h e on; saw = refl }
+pub put_step : (image m : Mem) (pc : ℕ) (x : ℕ → ℕ) (l : Line) (v : ℕ) → Fixed image m → Holds image pc l → row l.op pc (x l.rs1) (x l.rs2) l.imm ≡ Puts v (sum_of pc 4) → returns_by l.op ≡ false → with_reg x l.rd v 2 ≡ x 2 → Ran 1 [] (at pc x) m (at (pc + 4) (with_reg x l.rd v)) m
+put_step image m pc x l v fixed h e on keeps = record { ts = []; reach = puts image m pc x l v fixed h e on (inl keeps); saw = refl }
 
-pub leap_step : (image m : Mem) (pc : ℕ) (x : ℕ → ℕ) (l : Line) (v target : ℕ) → Fixed image m → Holds image pc l → row l.op pc (x l.rs1) (x l.rs2) l.imm ≡ Puts v target → (in_runtime pc ≡ false → returns_by l.op ≡ true → IsBehindCall m target) → Ran 1 [] (at pc x) m (at target (with_reg x l.rd v)) m
-leap_step image m pc x l v target fixed h e back = record { ts = []; reach = leaps image m pc x l v target fixed h e back; saw = refl }
+pub leap_step : (image m : Mem) (pc : ℕ) (x : ℕ → ℕ) (l : Line) (v target : ℕ) → Fixed image m → Holds image pc l → row l.op pc (x l.rs1) (x l.rs2) l.imm ≡ Puts v target → (in_runtime pc ≡ false → returns_by l.op ≡ true → IsBehindCall m target) → with_reg x l.rd v 2 ≡ x 2 → Ran 1 [] (at pc x) m (at target (with_reg x l.rd v)) m
+leap_step image m pc x l v target fixed h e back keeps = record { ts = []; reach = leaps image m pc x l v target fixed h e back (inl keeps); saw = refl }
 
 pub go_step : (image m : Mem) (pc : ℕ) (x : ℕ → ℕ) (l : Line) (target : ℕ) → Fixed image m → Holds image pc l → row l.op pc (x l.rs1) (x l.rs2) l.imm ≡ Goes target → Ran 1 [] (at pc x) m (at target x) m
 go_step image m pc x l target fixed h e = record { ts = []; reach = passes image m pc x l target fixed h e; saw = refl }
 
 -- a load of a whole word, or of a byte as it is
-pub load_step : (image m : Mem) (pc : ℕ) (x : ℕ → ℕ) (l : Line) (a n : ℕ) → Fixed image m → Holds image pc l → row l.op pc (x l.rs1) (x l.rs2) l.imm ≡ Loads a n Zero → is_place a n ≡ true → may_load (in_runtime pc) a n ≡ true → Ran 1 (seen (Loaded a n ∷ [])) (at pc x) m (at (pc + 4) (with_reg x l.rd (little m a n))) m
-load_step image m pc x l a n fixed h e ok may = record { ts = Loaded a n ∷ []; reach = loads image m pc x l a n Zero fixed h e ok may; saw = refl }
+pub load_step : (image m : Mem) (pc : ℕ) (x : ℕ → ℕ) (l : Line) (a n : ℕ) → Fixed image m → Holds image pc l → row l.op pc (x l.rs1) (x l.rs2) l.imm ≡ Loads a n Zero → is_place a n ≡ true → may_load (in_runtime pc) a n ≡ true → with_reg x l.rd (little m a n) 2 ≡ x 2 → Ran 1 (seen (Loaded a n ∷ [])) (at pc x) m (at (pc + 4) (with_reg x l.rd (little m a n))) m
+load_step image m pc x l a n fixed h e ok may keeps = record { ts = Loaded a n ∷ []; reach = loads image m pc x l a n Zero fixed h e ok may (inl keeps); saw = refl }
 
 pub begins_same : (a b : List ℕ) → b ≡ a → Begins a b
 begins_same a b e = ([], e ∙ sym (append-nil a))
@@ -112,12 +112,12 @@ pub byte_place : (a : ℕ) → a < 5242880 → is_place a 1 ≡ true
 byte_place a l = ap (λ z. z == 0 && nat_le (a + 1) 5242880) (mod-one a) ∙ in_memory a l
 
 -- one step after which more is shown
-grown : (ts : List Touch) (c d : Cpu) (m k : Mem) → step_of c m ≡ record { went = On; cpu = d; mem = k } → touches c m ≡ ts → Begins (shown m) (shown k) → (4096 ≤ c.pc) × (c.pc + 4 ≤ 1048576) → AreAllowed (in_runtime c.pc) ts → AreDue m k ts → AreBesideFree (c.x 2) ts → Backs c m d.pc → Reach 1 ts c m d k
-grown ts c d m k e h more inside allowed due free backs = record {
+grown : (ts : List Touch) (c d : Cpu) (m k : Mem) → step_of c m ≡ record { went = On; cpu = d; mem = k } → touches c m ≡ ts → Begins (shown m) (shown k) → (4096 ≤ c.pc) × (c.pc + 4 ≤ 1048576) → AreAllowed (in_runtime c.pc) ts → AreDue m k ts → AreBesideFree (c.x 2) ts → Backs c m d.pc → d.x 2 ≡ c.x 2 → Reach [] 1 ts c m d k
+grown ts c d m k e h more inside allowed due free backs keeps = record {
   ran = λ j. one_more j c d m k e;
   met = λ j. ap (λ (s : Stepped). touches c m ++ touched_on (touched j) s.cpu s.mem s.went) e ∙ ap (λ t. t ++ touched j d k) h;
   grows = now;
-  each = plain_one ts c d m k e h inside allowed due free backs more;
+  each = plain_one ts c d m k e h inside allowed due free (inl keeps) backs more;
 }
   where
     now : (i : ℕ) → i ≤ 1 → Begins (shown (runs i c m).mem) (shown k)
@@ -137,6 +137,6 @@ store_step image m pc x l a n v fixed h e ok more may due free =
       ts = Stored a n ∷ [];
       reach = grown (Stored a n ∷ []) c (at (pc + 4) x) m (written m a (bytes_of n v))
           (stores_step c m h.w l a n v f e ok ∙ ap (λ q. record { went = On; cpu = at q x; mem = written m a (bytes_of n v) }) (next_pc image pc l h))
-          (touches_are c m h.w l f ∙ ap touch_of e) more (h.above, h.low) (may, tt) (due, tt) (free, tt) (back_of c m h.w l (pc + 4) f (no_back pc l m (pc + 4) (stores_on l.op pc (x l.rs1) (x l.rs2) l.imm a n v e)));
+          (touches_are c m h.w l f ∙ ap touch_of e) more (h.above, h.low) (may, tt) (due, tt) (free, tt) (back_of c m h.w l (pc + 4) f (no_back pc l m (pc + 4) (stores_on l.op pc (x l.rs1) (x l.rs2) l.imm a n v e))) refl;
       saw = refl;
     }

@@ -226,11 +226,11 @@ enter image m x e routine low high fixed x0 small =
     let h3 = entry_holds image routine e 3 (pc + 4 + 4 + 4) low high (omega arith) (omega arith) in
     let h4 = entry_holds image routine e 4 pc4 low high (omega arith) (omega arith) in
     let there : sum_of pc4 (748 - 24 * e) ≡ ladder_at (31 - e) = omega arith in
-    let s0 : Ran 1 [] (at pc x) m (at (pc + 4) x1) m = load_step image m pc x (entry_line e 0) 0 4 fixed h0 (ap (λ z. Loads (sum_of z 0) 4 Zero) x0) refl refl in
-    let s1 : Ran 1 [] (at (pc + 4) x1) m (at (pc + 4 + 4) x2) m = put_step image m (pc + 4) x1 (entry_line e 1) (bit_xor i 1) fixed h1 refl refl in
-    let s2 : Ran 1 [] (at (pc + 4 + 4) x2) m (at (pc + 4 + 4 + 4) x3) m = put_step image m (pc + 4 + 4) x2 (entry_line e 2) (shift_left (bit_xor i 1) 7) fixed h2 refl refl in
-    let s3 : Ran 1 [] (at (pc + 4 + 4 + 4) x3) m (at pc4 x4) m = put_step image m (pc + 4 + 4 + 4) x3 (entry_line e 3) (staged i) fixed h3 refl refl in
-    let s4 : Ran 1 [] (at pc4 x4) m (at (ladder_at (31 - e)) (with_reg x4 0 (sum_of pc4 4))) m = leap_step image m pc4 x4 (entry_line e 4) (sum_of pc4 4) (ladder_at (31 - e)) fixed h4 (ap (λ z. Puts (sum_of pc4 4) z) there) (no_back pc4 (entry_line e 4) m (ladder_at (31 - e)) refl) in
+    let s0 : Ran 1 [] (at pc x) m (at (pc + 4) x1) m = load_step image m pc x (entry_line e 0) 0 4 fixed h0 (ap (λ z. Loads (sum_of z 0) 4 Zero) x0) refl refl refl in
+    let s1 : Ran 1 [] (at (pc + 4) x1) m (at (pc + 4 + 4) x2) m = put_step image m (pc + 4) x1 (entry_line e 1) (bit_xor i 1) fixed h1 refl refl refl in
+    let s2 : Ran 1 [] (at (pc + 4 + 4) x2) m (at (pc + 4 + 4 + 4) x3) m = put_step image m (pc + 4 + 4) x2 (entry_line e 2) (shift_left (bit_xor i 1) 7) fixed h2 refl refl refl in
+    let s3 : Ran 1 [] (at (pc + 4 + 4 + 4) x3) m (at pc4 x4) m = put_step image m (pc + 4 + 4 + 4) x3 (entry_line e 3) (staged i) fixed h3 refl refl refl in
+    let s4 : Ran 1 [] (at pc4 x4) m (at (ladder_at (31 - e)) (with_reg x4 0 (sum_of pc4 4))) m = leap_step image m pc4 x4 (entry_line e 4) (sum_of pc4 4) (ladder_at (31 - e)) fixed h4 (ap (λ z. Puts (sum_of pc4 4) z) there) (no_back pc4 (entry_line e 4) m (ladder_at (31 - e)) refl) refl in
     record {
       y = with_reg x4 0 (sum_of pc4 4);
       ran = follow s0 (follow s1 (follow s2 (follow s3 s4)));
@@ -286,10 +286,10 @@ saving image m x e routine low high fixed x0 even small index bytes =
       limit = inl (omega arith);
       appends = λ z. absurd (omega arith);
     } in
-    let shift : Ran 1 [] (at (ladder_at 30) y) k (at (ladder_at 31) y1) k = put_step image k (ladder_at 30) y shift_line v fixed_k (ladder_holds image routine 30 shift_line (omega arith) refl shift_back) refl refl in
+    let shift : Ran 1 [] (at (ladder_at 30) y) k (at (ladder_at 31) y1) k = put_step image k (ladder_at 30) y shift_line v fixed_k (ladder_holds image routine 30 shift_line (omega arith) refl shift_back) refl refl refl in
     let flip : Ran 1 (Flipped ∷ []) (at (ladder_at 31) y1) k (at (ladder_at 32) y1) h = store_step image k (ladder_at 31) y1 flip_line 0 4 v fixed_k (ladder_holds image routine 31 flip_line (omega arith) refl flip_back) (ap (λ z. Stores (sum_of z 0) 4 v) y0) refl (begins_same (shown k) (shown h) (kept_shown k h flip_kept)) refl turns (inl (omega arith)) in
     let target : sum_of (y1 3) 0 - sum_of (y1 3) 0 % 2 ≡ x 3 = ap (λ z. sum_of z 0 - sum_of z 0 % 2) y3 ∙ even_jump (x 3) even small in
-    let back : Ran 1 [] (at (ladder_at 32) y1) h (at (x 3) (with_reg y1 0 (sum_of (ladder_at 32) 4))) h = leap_step image h (ladder_at 32) y1 return_line (sum_of (ladder_at 32) 4) (x 3) fixed_h (ladder_holds image routine 32 return_line (omega arith) refl return_back) (ap (λ z. Puts (sum_of (ladder_at 32) 4) z) target) (λ out is. absurd (let bad : true ≡ false = out in cc)) in
+    let back : Ran 1 [] (at (ladder_at 32) y1) h (at (x 3) (with_reg y1 0 (sum_of (ladder_at 32) 4))) h = leap_step image h (ladder_at 32) y1 return_line (sum_of (ladder_at 32) 4) (x 3) fixed_h (ladder_holds image routine 32 return_line (omega arith) refl return_back) (ap (λ z. Puts (sum_of (ladder_at 32) 4) z) target) (λ out is. absurd (let bad : true ≡ false = out in cc)) refl in
     let count : plus 5 (plus (e - 1) 3) ≡ e + 7 = (let q = plus_is (e - 1) 3 in omega arith) in
     record {
       y = with_reg y1 0 (sum_of (ladder_at 32) 4);

@@ -54,13 +54,13 @@ pub record Serves (r : Runtime) (place : ℕ → ℕ) : Type 0 where
 abbrev pub ServesLaw : Type 0
 ServesLaw = (r : Runtime) (place : ℕ → ℕ) → HasRoutines r.image place → 71 ≤ r.longest → 3 ≤ r.flips → Serves r place
 
--- the two ends: one store, and the run has halted
+-- the two ends: one store, and the run has halted; the stack pointer never moves
 abbrev pub ExitLaw : Type 0
 ExitLaw =
     (image : Mem) (place : ℕ → ℕ) → HasRoutines image place → (m : Mem) (x : ℕ → ℕ) → Fixed image m → x 0 ≡ 0 →
-    Stopped 2 (Stored status_at 4 ∷ []) (record { pc = place exit_label; x = x }) m (written m status_at (bytes_of 4 (x 10)))
+    Stopped [] 2 (Stored status_at 4 ∷ []) (record { pc = place exit_label; x = x }) m (written m status_at (bytes_of 4 (x 10)))
 
 abbrev pub StackLaw : Type 0
 StackLaw =
     (image : Mem) (place : ℕ → ℕ) → HasRoutines image place → (m : Mem) (x : ℕ → ℕ) → Fixed image m → x 0 ≡ 0 →
-    Stopped 3 (Stored reason_at 4 ∷ []) (record { pc = place stack_label; x = x }) m (written m reason_at (bytes_of 4 1))
+    Stopped [] 3 (Stored reason_at 4 ∷ []) (record { pc = place stack_label; x = x }) m (written m reason_at (bytes_of 4 1))

@@ -1,6 +1,6 @@
 -- Some steps of the machine, whatever comes behind them, and the steps of one instruction.
 use Rattle.std.proofs.Common.{◌≡◌, ℕ, zero, suc, ◌+◌, ◌-◌, ◌<◌, ◌≤◌, ◌⊎◌, inl, inr, Bool, true, false, cond, List, [], ◌∷◌, ◌++◌, Some, sym, ap, ◌∙◌, subst, refl, append_assoc, arith, length}
-use Rattle.std.specs.Prelude.{◌==◌, ◌&&◌, ◌||◌, nat_le, min}
+use Rattle.std.specs.Prelude.{◌==◌, ◌&&◌, ◌||◌, nat_le, min, slice_get, slice_index_or}
 use Rattle.im_num.specs.Bytes.{bytes_of}
 use Rattle.std.proofs.lemmas.List.{append-nil}
 use Rattle.std.proofs.lemmas.Bool.{cases_lt}
@@ -15,14 +15,14 @@ use Rattle.im_rv.specs.Steps.{Cpu, Stepped, sum_of, with_reg, extended, row}
 use Rattle.im_rv.specs.Decode.{Line}
 use Rattle.im_rv.specs.Effects.{decoded_word, fetched_line}
 use Rattle.im_rv.specs.Runs.{step_of, runs}
-use Rattle.im_rv.proofs.Straight.{one_more, halts_here, fetch_is, Fetches, puts_step, goes_step, loads_step, stores_step, stops_step}
+use Rattle.im_rv.proofs.Straight.{one_more, halts_here, fetch_is, Fetches, other_reg, puts_step, goes_step, loads_step, stores_step, stops_step}
 use Rattle.im_rv_reach.specs.Touches.{Touch, Loaded, Stored, touch_of, line_touches, word_touches, touches, touched_on, touched}
 use Rattle.im_rv.specs.declared.effect.Extension.{Extension}
 use Rattle.im_image.specs.declared.form.Form.TheVariants.{TwoLengths}
 use Rattle.im_device.specs.Shows.{output_length}
 use Rattle.im_mem.specs.Map.{out_len0_at, out_len1_at, out_sel_at, output_start, output_capacity, in_len_at, in_pos_at, input_start}
 use Rattle.im_rv_reach.specs.Shown.{shown, left, Begins}
-use Rattle.im_rv_reach.specs.Plain.{in_runtime, may_load, may_store, AreAllowed, IsApart, IsDue, AreDue, IsBesideFree, AreBesideFree, returns_by, is_return, IsBehindCall, IsPlain}
+use Rattle.im_rv_reach.specs.Plain.{in_runtime, may_load, may_store, AreAllowed, IsApart, IsDue, AreDue, IsBesideFree, AreBesideFree, MovesBy, returns_by, is_return, IsBehindCall, IsPlain}
 use Rattle.im_rv_reach.specs.Reach.{plus, Reach, Stopped}
 use Rattle.im_rv_reach.specs.Instructions.{Holds, Fixed}
 
@@ -43,14 +43,14 @@ begins_trans a b c h k = (h.0 ++ k.0, k.1 ∙ ap (λ z. z ++ k.0) h.1 ∙ append
 pub before_or_after : (i n : ℕ) → (i ≤ n) ⊎ (n ≤ i)
 before_or_after i n = grind arith
 
-pub nothing : (c : Cpu) (m : Mem) → Reach zero [] c m c m
+pub nothing : {frames : List ℕ} (c : Cpu) (m : Mem) → Reach frames zero [] c m c m
 nothing c m = record { ran = λ j. refl; met = λ j. refl; grows = λ i le. only i (omega arith); each = λ i lt. absurd (omega arith) }
   where
     only : (i : ℕ) → i ≡ 0 → Begins (shown (runs i c m).mem) (shown m)
     only i e = begins_same _ _ (ap (λ z. shown (runs z c m).mem) (sym e))
 
-pub join : (n l : ℕ) (ts us : List Touch) (c d e : Cpu) (m k h : Mem) → Reach n ts c m d k → Reach l us d k e h → Reach (plus n l) (ts ++ us) c m e h
-join n l ts us c d e m k h a b = record {
+pub join : {frames : List ℕ} (n l : ℕ) (ts us : List Touch) (c d e : Cpu) (m k h : Mem) → Reach frames n ts c m d k → Reach frames l us d k e h → Reach frames (plus n l) (ts ++ us) c m e h
+join {frames} n l ts us c d e m k h a b = record {
   ran = λ j. ap (λ z. runs z c m) (plus_assoc n l j) ∙ a.ran (plus l j) ∙ b.ran j;
   met = λ j. ap (λ z. touched z c m) (plus_assoc n l j) ∙ a.met (plus l j) ∙ ap (λ z. ts ++ z) (b.met j) ∙ sym (append_assoc ts us (touched j e h));
   grows = λ i le. elim (before_or_after i n) [
@@ -66,7 +66,7 @@ join n l ts us c d e m k h a b = record {
     | inr x ↦ (
         let q = plus_is n l in
         let f : i ≡ plus n (i - n) = (let g = plus_is n (i - n) in omega arith) in
-        subst (λ (z : Stepped). IsPlain z.cpu z.mem) (sym (ap (λ z. runs z c m) f ∙ a.ran (i - n))) (b.each (i - n) (omega arith))
+        subst (λ (z : Stepped). IsPlain frames z.cpu z.mem) (sym (ap (λ z. runs z c m) f ∙ a.ran (i - n))) (b.each (i - n) (omega arith))
         )
   ];
 }
@@ -76,23 +76,24 @@ abbrev pub Backs : Cpu → Mem → ℕ → Type 0
 Backs c m target = in_runtime c.pc ≡ false → is_return (fetched_line c m) ≡ true → IsBehindCall m target
 
 -- one step is plain
-pub plain_one : (ts : List Touch) (c d : Cpu) (m k : Mem) → step_of c m ≡ record { went = On; cpu = d; mem = k } → touches c m ≡ ts → (4096 ≤ c.pc) × (c.pc + 4 ≤ 1048576) → AreAllowed (in_runtime c.pc) ts → AreDue m k ts → AreBesideFree (c.x 2) ts → Backs c m d.pc → Begins (shown m) (shown k) → (i : ℕ) → i < 1 → IsPlain (runs i c m).cpu (runs i c m).mem
-plain_one ts c d m k e h inside allowed due free backs more zero lt = record {
+pub plain_one : {frames : List ℕ} (ts : List Touch) (c d : Cpu) (m k : Mem) → step_of c m ≡ record { went = On; cpu = d; mem = k } → touches c m ≡ ts → (4096 ≤ c.pc) × (c.pc + 4 ≤ 1048576) → AreAllowed (in_runtime c.pc) ts → AreDue m k ts → AreBesideFree (c.x 2) ts → MovesBy frames (c.x 2) (d.x 2) → Backs c m d.pc → Begins (shown m) (shown k) → (i : ℕ) → i < 1 → IsPlain frames (runs i c m).cpu (runs i c m).mem
+plain_one {frames} ts c d m k e h inside allowed due free moves backs more zero lt = record {
   inside = inside;
   allowed = subst (AreAllowed (in_runtime c.pc)) (sym h) allowed;
   due = subst (λ (s : Stepped). AreDue m s.mem (touches c m)) (sym e) (subst (AreDue m k) (sym h) due);
   free = subst (AreBesideFree (c.x 2)) (sym h) free;
+  moves = subst (λ (s : Stepped). MovesBy frames (c.x 2) (s.cpu.x 2)) (sym e) moves;
   grows = subst (λ (s : Stepped). Begins (shown m) (shown s.mem)) (sym e) more;
   returns = λ out is. subst (λ (s : Stepped). IsBehindCall m s.cpu.pc) (sym e) (backs out is);
 }
-plain_one ts c d m k e h inside allowed due free backs more (suc i) lt = absurd (omega arith)
+plain_one ts c d m k e h inside allowed due free moves backs more (suc i) lt = absurd (omega arith)
 
-pub one : (ts : List Touch) (c d : Cpu) (m k : Mem) → step_of c m ≡ record { went = On; cpu = d; mem = k } → touches c m ≡ ts → shown k ≡ shown m → (4096 ≤ c.pc) × (c.pc + 4 ≤ 1048576) → AreAllowed (in_runtime c.pc) ts → AreDue m k ts → AreBesideFree (c.x 2) ts → Backs c m d.pc → Reach 1 ts c m d k
-one ts c d m k e h same inside allowed due free backs = record {
+pub one : {frames : List ℕ} (ts : List Touch) (c d : Cpu) (m k : Mem) → step_of c m ≡ record { went = On; cpu = d; mem = k } → touches c m ≡ ts → shown k ≡ shown m → (4096 ≤ c.pc) × (c.pc + 4 ≤ 1048576) → AreAllowed (in_runtime c.pc) ts → AreDue m k ts → AreBesideFree (c.x 2) ts → MovesBy frames (c.x 2) (d.x 2) → Backs c m d.pc → Reach frames 1 ts c m d k
+one ts c d m k e h same inside allowed due free moves backs = record {
   ran = λ j. one_more j c d m k e;
   met = λ j. ap (λ (s : Stepped). touches c m ++ touched_on (touched j) s.cpu s.mem s.went) e ∙ ap (λ t. t ++ touched j d k) h;
   grows = at;
-  each = plain_one ts c d m k e h inside allowed due free backs (begins_same (shown m) (shown k) same);
+  each = plain_one ts c d m k e h inside allowed due free moves backs (begins_same (shown m) (shown k) same);
 }
   where
     at : (i : ℕ) → i ≤ 1 → Begins (shown (runs i c m).mem) (shown k)
@@ -271,49 +272,49 @@ pub next_pc : (image : Mem) (pc : ℕ) (l : Line) → Holds image pc l → sum_o
 next_pc image pc l h = let low = h.low in omega arith
 
 -- one instruction that puts a value
-pub puts : (image m : Mem) (pc : ℕ) (x : ℕ → ℕ) (l : Line) (v : ℕ) → Fixed image m → Holds image pc l → row l.op pc (x l.rs1) (x l.rs2) l.imm ≡ Puts v (sum_of pc 4) → returns_by l.op ≡ false → Reach 1 [] (record { pc = pc; x = x }) m (record { pc = pc + 4; x = with_reg x l.rd v }) m
-puts image m pc x l v fixed h e on =
+pub puts : {frames : List ℕ} (image m : Mem) (pc : ℕ) (x : ℕ → ℕ) (l : Line) (v : ℕ) → Fixed image m → Holds image pc l → row l.op pc (x l.rs1) (x l.rs2) l.imm ≡ Puts v (sum_of pc 4) → returns_by l.op ≡ false → MovesBy frames (x 2) (with_reg x l.rd v 2) → Reach frames 1 [] (record { pc = pc; x = x }) m (record { pc = pc + 4; x = with_reg x l.rd v }) m
+puts image m pc x l v fixed h e on moves =
     let c : Cpu = record { pc = pc; x = x } in
     let f : Fetches c m h.w l = fetches image m pc x l fixed h in
     one [] c (record { pc = pc + 4; x = with_reg x l.rd v }) m m
     (puts_step c m h.w l v (sum_of pc 4) f e ∙ ap (λ q. record { went = On; cpu = record { pc = q; x = with_reg x l.rd v }; mem = m }) (next_pc image pc l h))
-    (touches_is c m h.w l f ∙ ap touch_of e) refl (h.above, h.low) tt tt tt (back_of c m h.w l (pc + 4) f (no_back pc l m (pc + 4) on))
+    (touches_is c m h.w l f ∙ ap touch_of e) refl (h.above, h.low) tt tt tt moves (back_of c m h.w l (pc + 4) f (no_back pc l m (pc + 4) on))
 
 -- one that puts a value and jumps
-pub leaps : (image m : Mem) (pc : ℕ) (x : ℕ → ℕ) (l : Line) (v target : ℕ) → Fixed image m → Holds image pc l → row l.op pc (x l.rs1) (x l.rs2) l.imm ≡ Puts v target → (in_runtime pc ≡ false → returns_by l.op ≡ true → IsBehindCall m target) → Reach 1 [] (record { pc = pc; x = x }) m (record { pc = target; x = with_reg x l.rd v }) m
-leaps image m pc x l v target fixed h e back =
+pub leaps : {frames : List ℕ} (image m : Mem) (pc : ℕ) (x : ℕ → ℕ) (l : Line) (v target : ℕ) → Fixed image m → Holds image pc l → row l.op pc (x l.rs1) (x l.rs2) l.imm ≡ Puts v target → (in_runtime pc ≡ false → returns_by l.op ≡ true → IsBehindCall m target) → MovesBy frames (x 2) (with_reg x l.rd v 2) → Reach frames 1 [] (record { pc = pc; x = x }) m (record { pc = target; x = with_reg x l.rd v }) m
+leaps image m pc x l v target fixed h e back moves =
     let c : Cpu = record { pc = pc; x = x } in
     let f : Fetches c m h.w l = fetches image m pc x l fixed h in
-    one [] c (record { pc = target; x = with_reg x l.rd v }) m m (puts_step c m h.w l v target f e) (touches_is c m h.w l f ∙ ap touch_of e) refl (h.above, h.low) tt tt tt (back_of c m h.w l target f back)
+    one [] c (record { pc = target; x = with_reg x l.rd v }) m m (puts_step c m h.w l v target f e) (touches_is c m h.w l f ∙ ap touch_of e) refl (h.above, h.low) tt tt tt moves (back_of c m h.w l target f back)
 
 -- one that goes somewhere
-pub passes : (image m : Mem) (pc : ℕ) (x : ℕ → ℕ) (l : Line) (target : ℕ) → Fixed image m → Holds image pc l → row l.op pc (x l.rs1) (x l.rs2) l.imm ≡ Goes target → Reach 1 [] (record { pc = pc; x = x }) m (record { pc = target; x = x }) m
+pub passes : {frames : List ℕ} (image m : Mem) (pc : ℕ) (x : ℕ → ℕ) (l : Line) (target : ℕ) → Fixed image m → Holds image pc l → row l.op pc (x l.rs1) (x l.rs2) l.imm ≡ Goes target → Reach frames 1 [] (record { pc = pc; x = x }) m (record { pc = target; x = x }) m
 passes image m pc x l target fixed h e =
     let c : Cpu = record { pc = pc; x = x } in
     let f : Fetches c m h.w l = fetches image m pc x l fixed h in
-    one [] c (record { pc = target; x = x }) m m (goes_step c m h.w l target f e) (touches_is c m h.w l f ∙ ap touch_of e) refl (h.above, h.low) tt tt tt (back_of c m h.w l target f (no_back pc l m target (passes_on l.op pc (x l.rs1) (x l.rs2) l.imm target e)))
+    one [] c (record { pc = target; x = x }) m m (goes_step c m h.w l target f e) (touches_is c m h.w l f ∙ ap touch_of e) refl (h.above, h.low) tt tt tt (inl refl) (back_of c m h.w l target f (no_back pc l m target (passes_on l.op pc (x l.rs1) (x l.rs2) l.imm target e)))
 
 -- one that loads
-pub loads : (image m : Mem) (pc : ℕ) (x : ℕ → ℕ) (l : Line) (a n : ℕ) (extension : Extension) → Fixed image m → Holds image pc l → row l.op pc (x l.rs1) (x l.rs2) l.imm ≡ Loads a n extension → is_place a n ≡ true → may_load (in_runtime pc) a n ≡ true → Reach 1 (Loaded a n ∷ []) (record { pc = pc; x = x }) m (record { pc = pc + 4; x = with_reg x l.rd (extended n extension (little m a n)) }) m
-loads image m pc x l a n extension fixed h e ok may =
+pub loads : {frames : List ℕ} (image m : Mem) (pc : ℕ) (x : ℕ → ℕ) (l : Line) (a n : ℕ) (extension : Extension) → Fixed image m → Holds image pc l → row l.op pc (x l.rs1) (x l.rs2) l.imm ≡ Loads a n extension → is_place a n ≡ true → may_load (in_runtime pc) a n ≡ true → MovesBy frames (x 2) (with_reg x l.rd (extended n extension (little m a n)) 2) → Reach frames 1 (Loaded a n ∷ []) (record { pc = pc; x = x }) m (record { pc = pc + 4; x = with_reg x l.rd (extended n extension (little m a n)) }) m
+loads image m pc x l a n extension fixed h e ok may moves =
     let c : Cpu = record { pc = pc; x = x } in
     let f : Fetches c m h.w l = fetches image m pc x l fixed h in
     one (Loaded a n ∷ []) c (record { pc = pc + 4; x = with_reg x l.rd (extended n extension (little m a n)) }) m m
     (loads_step c m h.w l a n extension f e ok ∙ ap (λ q. record { went = On; cpu = record { pc = q; x = with_reg x l.rd (extended n extension (little m a n)) }; mem = m }) (next_pc image pc l h))
-    (touches_is c m h.w l f ∙ ap touch_of e) refl (h.above, h.low) (may, tt) tt tt (back_of c m h.w l (pc + 4) f (no_back pc l m (pc + 4) (loads_on l.op pc (x l.rs1) (x l.rs2) l.imm a n extension e)))
+    (touches_is c m h.w l f ∙ ap touch_of e) refl (h.above, h.low) (may, tt) tt tt moves (back_of c m h.w l (pc + 4) f (no_back pc l m (pc + 4) (loads_on l.op pc (x l.rs1) (x l.rs2) l.imm a n extension e)))
 
 -- one that stores
-pub stores : (image m : Mem) (pc : ℕ) (x : ℕ → ℕ) (l : Line) (a n v : ℕ) → Fixed image m → Holds image pc l → row l.op pc (x l.rs1) (x l.rs2) l.imm ≡ Stores a n v → is_place a n ≡ true → shown (written m a (bytes_of n v)) ≡ shown m → May (in_runtime pc) a n → IsBesideFree (x 2) a n → Reach 1 (Stored a n ∷ []) (record { pc = pc; x = x }) m (record { pc = pc + 4; x = x }) (written m a (bytes_of n v))
+pub stores : {frames : List ℕ} (image m : Mem) (pc : ℕ) (x : ℕ → ℕ) (l : Line) (a n v : ℕ) → Fixed image m → Holds image pc l → row l.op pc (x l.rs1) (x l.rs2) l.imm ≡ Stores a n v → is_place a n ≡ true → shown (written m a (bytes_of n v)) ≡ shown m → May (in_runtime pc) a n → IsBesideFree (x 2) a n → Reach frames 1 (Stored a n ∷ []) (record { pc = pc; x = x }) m (record { pc = pc + 4; x = x }) (written m a (bytes_of n v))
 stores image m pc x l a n v fixed h e ok same may free =
     let c : Cpu = record { pc = pc; x = x } in
     let f : Fetches c m h.w l = fetches image m pc x l fixed h in
     one (Stored a n ∷ []) c (record { pc = pc + 4; x = x }) m (written m a (bytes_of n v))
     (stores_step c m h.w l a n v f e ok ∙ ap (λ q. record { went = On; cpu = record { pc = q; x = x }; mem = written m a (bytes_of n v) }) (next_pc image pc l h))
-    (touches_is c m h.w l f ∙ ap touch_of e) same (h.above, h.low) (may.allowed, tt) (may.due m (written m a (bytes_of n v)), tt) (free, tt) (back_of c m h.w l (pc + 4) f (no_back pc l m (pc + 4) (stores_on l.op pc (x l.rs1) (x l.rs2) l.imm a n v e)))
+    (touches_is c m h.w l f ∙ ap touch_of e) same (h.above, h.low) (may.allowed, tt) (may.due m (written m a (bytes_of n v)), tt) (free, tt) (inl refl) (back_of c m h.w l (pc + 4) f (no_back pc l m (pc + 4) (stores_on l.op pc (x l.rs1) (x l.rs2) l.imm a n v e)))
 
 -- ebreak ends the run
-pub halts : (image m : Mem) (pc : ℕ) (x : ℕ → ℕ) (l : Line) → Fixed image m → Holds image pc l → row l.op pc (x l.rs1) (x l.rs2) l.imm ≡ Stops → Stopped 1 [] (record { pc = pc; x = x }) m m
-halts image m pc x l fixed h e =
+pub halts : {frames : List ℕ} (image m : Mem) (pc : ℕ) (x : ℕ → ℕ) (l : Line) → Fixed image m → Holds image pc l → row l.op pc (x l.rs1) (x l.rs2) l.imm ≡ Stops → Stopped frames 1 [] (record { pc = pc; x = x }) m m
+halts {frames} image m pc x l fixed h e =
     let c : Cpu = record { pc = pc; x = x } in
     let f : Fetches c m h.w l = fetches image m pc x l fixed h in
     let s = stops_step c m h.w l f e in
@@ -325,12 +326,13 @@ halts image m pc x l fixed h e =
       each = plain s (touches_is c m h.w l f ∙ ap touch_of e);
     }
   where
-    plain : step_of (record { pc = pc; x = x }) m ≡ record { went = Halted; cpu = record { pc = pc; x = x }; mem = m } → touches (record { pc = pc; x = x }) m ≡ [] → (i : ℕ) → i < 1 → IsPlain (runs i (record { pc = pc; x = x }) m).cpu (runs i (record { pc = pc; x = x }) m).mem
+    plain : step_of (record { pc = pc; x = x }) m ≡ record { went = Halted; cpu = record { pc = pc; x = x }; mem = m } → touches (record { pc = pc; x = x }) m ≡ [] → (i : ℕ) → i < 1 → IsPlain frames (runs i (record { pc = pc; x = x }) m).cpu (runs i (record { pc = pc; x = x }) m).mem
     plain s t zero lt = record {
       inside = (h.above, h.low);
       allowed = subst (AreAllowed (in_runtime pc)) (sym t) tt;
       due = subst (AreDue m (step_of (record { pc = pc; x = x }) m).mem) (sym t) tt;
       free = subst (AreBesideFree (x 2)) (sym t) tt;
+      moves = inl (ap (λ (z : Stepped). z.cpu.x 2) s);
       grows = subst (λ (z : Stepped). Begins (shown m) (shown z.mem)) (sym s) (begins_same (shown m) (shown m) refl);
       returns = back_of (record { pc = pc; x = x }) m h.w l (step_of (record { pc = pc; x = x }) m).cpu.pc (fetches image m pc x l fixed h) (no_back pc l m (step_of (record { pc = pc; x = x }) m).cpu.pc (stops_on l.op pc (x l.rs1) (x l.rs2) l.imm e));
     }
@@ -341,8 +343,8 @@ halts image m pc x l fixed h e =
     at s (suc zero) le = begins_same _ _ (sym (ap (λ (z : Stepped). shown z.mem) (halts_here 0 (record { pc = pc; x = x }) (record { pc = pc; x = x }) m m s)))
     at s (suc (suc i)) le = absurd (omega arith)
 
-pub then_stops : (n l : ℕ) (ts us : List Touch) (c d : Cpu) (m k h : Mem) → Reach n ts c m d k → Stopped l us d k h → Stopped (plus n l) (ts ++ us) c m h
-then_stops n l ts us c d m k h a b = record {
+pub then_stops : {frames : List ℕ} (n l : ℕ) (ts us : List Touch) (c d : Cpu) (m k h : Mem) → Reach frames n ts c m d k → Stopped frames l us d k h → Stopped frames (plus n l) (ts ++ us) c m h
+then_stops {frames} n l ts us c d m k h a b = record {
   cpu = b.cpu;
   ran = a.ran l ∙ b.ran;
   met = a.met l ∙ ap (λ z. ts ++ z) b.met;
@@ -359,10 +361,54 @@ then_stops n l ts us c d m k h a b = record {
     | inr x ↦ (
         let q = plus_is n l in
         let f : i ≡ plus n (i - n) = (let g = plus_is n (i - n) in omega arith) in
-        subst (λ (z : Stepped). IsPlain z.cpu z.mem) (sym (ap (λ z. runs z c m) f ∙ a.ran (i - n))) (b.each (i - n) (omega arith))
+        subst (λ (z : Stepped). IsPlain frames z.cpu z.mem) (sym (ap (λ z. runs z c m) f ∙ a.ran (i - n))) (b.each (i - n) (omega arith))
         )
   ];
 }
+
+-- where no frame moves the stack pointer, it moves by any frames
+pub stays : {frames : List ℕ} (c : Cpu) (m : Mem) → IsPlain [] c m → IsPlain frames c m
+stays {frames} c m p = record {
+  inside = p.inside;
+  allowed = p.allowed;
+  due = p.due;
+  free = p.free;
+  moves = kept p.moves;
+  grows = p.grows;
+  returns = p.returns;
+}
+  where
+    kept : MovesBy [] (c.x 2) ((step_of c m).cpu.x 2) → MovesBy frames (c.x 2) ((step_of c m).cpu.x 2)
+    kept (inl e) = inl e
+    kept (inr f) = absurd (let e = f.2 in cc)
+
+pub still : {frames : List ℕ} {n : ℕ} {ts : List Touch} {c d : Cpu} {m k : Mem} → Reach [] n ts c m d k → Reach frames n ts c m d k
+still {frames} {n} {ts} {c} {d} {m} {k} r = record { ran = r.ran; met = r.met; grows = r.grows; each = λ i lt. stays (runs i c m).cpu (runs i c m).mem (r.each i lt) }
+
+-- a register behind the stack pointer is set
+pub keeps : (x : ℕ → ℕ) (rd v : ℕ) → 2 < rd → with_reg x rd v 2 ≡ x 2
+keeps x rd v behind = other_reg x rd v 2 (omega arith)
+
+pub moves_at : (frames : List ℕ) (from to from' to' : ℕ) → from' ≡ from → to' ≡ to → MovesBy frames from to → MovesBy frames from' to'
+moves_at frames from to from' to' a b m = subst (λ z. MovesBy frames z to') (sym a) (subst (λ z. MovesBy frames from z) (sym b) m)
+
+-- a frame that a list has, or none
+frame_is : (frames : List ℕ) (i : ℕ) → (slice_get frames i ≡ Some (slice_index_or frames i 0)) ⊎ (slice_index_or frames i 0 ≡ 0)
+frame_is [] i = inr refl
+frame_is (size ∷ frames) zero = inl refl
+frame_is (size ∷ frames) (suc i) = frame_is frames i
+
+pub moves_down : (frames : List ℕ) (i from to : ℕ) → from ≡ to + slice_index_or frames i 0 → MovesBy frames from to
+moves_down frames i from to e = elim (frame_is frames i) [
+  | inl is ↦ inr (i, slice_index_or frames i 0, is, inl e)
+  | inr none ↦ inl (omega arith)
+]
+
+pub moves_up : (frames : List ℕ) (i from to : ℕ) → to ≡ from + slice_index_or frames i 0 → MovesBy frames from to
+moves_up frames i from to e = elim (frame_is frames i) [
+  | inl is ↦ inr (i, slice_index_or frames i 0, is, inr e)
+  | inr none ↦ inl (omega arith)
+]
 
 -- what stands in the image stands in memory that has its code
 pub behind_kept : (image m : Mem) (pc : ℕ) → Fixed image m → IsBehindCall image pc → IsBehindCall m pc

@@ -1,7 +1,8 @@
 -- What each single step of compiled code keeps, whatever its run does: it stands in the code, stores into no code, leaves
 -- INDEX and the register buffers to recovery and the checkpoint, and the settings as they are, stores into no stack below the
--- stack pointer, takes back nothing that was shown, stores output behind it alone, and returns behind calls.
-use Rattle.std.specs.Prelude.{◌≡◌, ◌≢◌, ◌<◌, ◌≤◌, ◌⊎◌, ℕ, ◌+◌, ◌-◌, Bool, true, false, ◌&&◌, ◌||◌, nat_le, nat_lt, List, [], ◌∷◌, length, Option, Some, None}
+-- stack pointer, moves the stack pointer by frames alone, takes back nothing that was shown, stores output behind it alone, and
+-- returns behind calls.
+use Rattle.std.specs.Prelude.{◌≡◌, ◌≢◌, ◌<◌, ◌≤◌, ◌⊎◌, ℕ, ◌+◌, ◌-◌, Bool, true, false, ◌&&◌, ◌||◌, nat_le, nat_lt, List, [], ◌∷◌, length, Option, Some, None, slice_get}
 use Rattle.im_mem.specs.Map.{code_start, statics_start, buffer0_start, index_at, out_len0_at, out_cap_at, in_len_at, stack_lim_at, out_len1_at, out_sel_at, stack_end, stack_capacity, output_start}
 use Rattle.im_mem.specs.Memory.{Mem, little}
 use Rattle.im_rv.specs.declared.instr.Op.{Op}
@@ -89,10 +90,15 @@ pub record IsBehindCall (m : Mem) (pc : ℕ) : Type 0 where
   pub imm : ℕ
   pub call : Holds m at (jumping 1 imm)
 
-pub record IsPlain (c : Cpu) (m : Mem) : Type 0 where
+-- the stack pointer stays, or goes down or up by the size of a frame
+abbrev pub MovesBy : List ℕ → ℕ → ℕ → Type 0
+MovesBy frames from to = (to ≡ from) ⊎ ((i size : ℕ) × (slice_get frames i ≡ Some size) × ((from ≡ to + size) ⊎ (to ≡ from + size)))
+
+pub record IsPlain (frames : List ℕ) (c : Cpu) (m : Mem) : Type 0 where
   pub inside : (code_start ≤ c.pc) × (c.pc + 4 ≤ statics_start)
   pub allowed : AreAllowed (in_runtime c.pc) (touches c m)
   pub due : AreDue m (step_of c m).mem (touches c m)
   pub free : AreBesideFree (c.x 2) (touches c m)
+  pub moves : MovesBy frames (c.x 2) ((step_of c m).cpu.x 2)
   pub grows : Begins (shown m) (shown (step_of c m).mem)
   pub returns : in_runtime c.pc ≡ false → is_return (fetched_line c m) ≡ true → IsBehindCall m (step_of c m).cpu.pc

@@ -13,16 +13,16 @@ plus zero k = k
 plus (suc n) k = suc (plus n k)
 
 -- n steps lead from one state to another, and touch this; the output grows
-pub record Reach (n : ℕ) (ts : List Touch) (c : Cpu) (m : Mem) (d : Cpu) (k : Mem) : Type 0 where
+pub record Reach (frames : List ℕ) (n : ℕ) (ts : List Touch) (c : Cpu) (m : Mem) (d : Cpu) (k : Mem) : Type 0 where
   pub ran : (j : ℕ) → runs (plus n j) c m ≡ runs j d k
   pub met : (j : ℕ) → touched (plus n j) c m ≡ ts ++ touched j d k
   pub grows : (i : ℕ) → i ≤ n → Begins (shown (runs i c m).mem) (shown k)
-  pub each : (i : ℕ) → i < n → IsPlain (runs i c m).cpu (runs i c m).mem
+  pub each : (i : ℕ) → i < n → IsPlain frames (runs i c m).cpu (runs i c m).mem
 
 -- n steps end the run
-pub record Stopped (n : ℕ) (ts : List Touch) (c : Cpu) (m k : Mem) : Type 0 where
+pub record Stopped (frames : List ℕ) (n : ℕ) (ts : List Touch) (c : Cpu) (m k : Mem) : Type 0 where
   pub cpu : Cpu
   pub ran : runs n c m ≡ record { went = Halted; cpu = cpu; mem = k }
   pub met : touched n c m ≡ ts
   pub grows : (i : ℕ) → i ≤ n → Begins (shown (runs i c m).mem) (shown k)
-  pub each : (i : ℕ) → i < n → IsPlain (runs i c m).cpu (runs i c m).mem
+  pub each : (i : ℕ) → i < n → IsPlain frames (runs i c m).cpu (runs i c m).mem

@@ -32,7 +32,8 @@ pub record Runtime : Type 0 where
   pub longest : ℕ
   pub flips : ℕ
 
--- a routine has run from a place, back to where it was called; it writes no byte of statics and stack
+-- a routine has run from a place, back to where it was called; it writes no byte of statics and stack, and never moves the stack
+-- pointer
 pub record Done (r : Runtime) (m : Mem) (pc : ℕ) (x : ℕ → ℕ) (back : ℕ) (output input : List ℕ) : Type 0 where
   pub n : ℕ
   pub some : 0 < n
@@ -40,7 +41,7 @@ pub record Done (r : Runtime) (m : Mem) (pc : ℕ) (x : ℕ → ℕ) (back : ℕ
   pub ts : List Touch
   pub y : ℕ → ℕ
   pub k : Mem
-  pub reach : Reach n ts (record { pc = pc; x = x }) m (record { pc = back; x = y }) k
+  pub reach : Reach [] n ts (record { pc = pc; x = x }) m (record { pc = back; x = y }) k
   pub flips : ℕ
   pub flips_few : flips ≤ r.flips
   pub system : heard ts ≡ replicate flips Flipped

@@ -1,5 +1,5 @@
 -- A run of plain steps without a fault fetches from the code alone: behind it memory is 0, and 0 is no instruction.
-use Rattle.std.proofs.Common.{◌≡◌, ◌≢◌, ℕ, zero, suc, ◌+◌, ◌*◌, ◌%◌, ◌<◌, ◌≤◌, ◌⊎◌, inl, inr, Bool, true, false, cond, Option, Some, None, refl, sym, ap, ◌∙◌, subst, arith}
+use Rattle.std.proofs.Common.{◌≡◌, ◌≢◌, ℕ, zero, suc, ◌+◌, ◌*◌, ◌%◌, ◌<◌, ◌≤◌, ◌⊎◌, inl, inr, Bool, true, false, cond, Option, Some, None, refl, sym, ap, ◌∙◌, subst, arith, List}
 use Rattle.std.specs.Prelude.{unwrap_or}
 use Rattle.std.proofs.lemmas.Bool.{and_parts}
 use Rattle.std.proofs.lemmas.Bool.Decides.{nat_tests}
@@ -33,7 +33,7 @@ code_out b k Stops may low high = refl
 pub place_even : (pc : ℕ) → is_place pc 4 ≡ true → pc % 4 ≡ 0
 place_even pc h = grind (arith, nat_tests)
 
-module _ (run : ℕ → State) (steps : IsRun run) (j words : ℕ) (plain : (t : ℕ) → t < j → IsPlain (run t).cpu (run t).mem) (calm : (t at : ℕ) → t < j → (step_of (run t).cpu (run t).mem).went ≢ Faulted at) (beyond : (a : ℕ) → 4096 + 4 * words ≤ a → a < 1048576 → (run 0).mem a ≡ 0) where
+module _ {frames : List ℕ} (run : ℕ → State) (steps : IsRun run) (j words : ℕ) (plain : (t : ℕ) → t < j → IsPlain frames (run t).cpu (run t).mem) (calm : (t at : ℕ) → t < j → (step_of (run t).cpu (run t).mem).went ≢ Faulted at) (beyond : (a : ℕ) → 4096 + 4 * words ≤ a → a < 1048576 → (run 0).mem a ≡ 0) where
   allowed : (t : ℕ) → t < j → AreAllowed (in_runtime (run t).cpu.pc) (touch_of (effect_of (run t).cpu (run t).mem))
   allowed t lt = subst (AreAllowed (in_runtime (run t).cpu.pc)) (touches_same (run t).cpu (run t).mem) (plain t lt).allowed
 

@@ -1,5 +1,5 @@
 -- INDEX is stored by flips alone, and no step outside the checkpoint flips; each touch is of an effect.
-use Rattle.std.proofs.Common.{◌≡◌, ◌≢◌, ℕ, ◌+◌, ◌<◌, ◌≤◌, inl, inr, Bool, true, false, not, [], ◌∷◌, Some, None, refl, sym, ap, ◌∙◌, subst, arith, eq-eqb, eqb-true}
+use Rattle.std.proofs.Common.{◌≡◌, ◌≢◌, ℕ, ◌+◌, ◌<◌, ◌≤◌, inl, inr, Bool, true, false, not, [], ◌∷◌, Some, None, refl, sym, ap, ◌∙◌, subst, arith, eq-eqb, eqb-true, List}
 use Rattle.std.specs.Prelude.{nat_eq, unwrap_or, ◌||◌, ◌==◌}
 use Rattle.std.proofs.lemmas.Bool.Decides.{nat_tests}
 use Rattle.im_mem.specs.Memory.{Mem, little}
@@ -33,7 +33,7 @@ same_number m n h = by (nat_eq m n) refl h
 index_fixed : (code a : ℕ) → a < 4 → (is_buffer a || is_fixed code a) ≡ true
 index_fixed code a h = grind (arith, nat_tests)
 
-module _ (run : ℕ → State) (j : ℕ) (p : GoesPlainly run j) where
+module _ {frames : List ℕ} (run : ℕ → State) (j : ℕ) (p : GoesPlainly frames run j) where
   pub allowed : (t : ℕ) → t < j → AreAllowed (in_runtime (run t).cpu.pc) (touch_of (effect_at (run t)))
   allowed t lt = subst (AreAllowed (in_runtime (run t).cpu.pc)) (touches_same (run t).cpu (run t).mem) (p.plain t lt).allowed
 

@@ -120,8 +120,8 @@ module _ (keeps : SelectKeeps) (written : WrittenLaw) (survives : SurvivesLaw) (
 
   -- what survival asks, from what each step keeps and from the rest
   module _ (n : ℕ) (o : Outcome) (run : List Event) (k : Runs u g n o run) (f : Selected_follows p u g (first_cpu image input) n o run k.steps) where
-    plain_at : (t : ℕ) → t < f.j → IsPlain (r t).cpu (r t).mem
-    plain_at t lt = subst (λ (s : State). IsPlain s.cpu s.mem) (at t) (f.plain t lt)
+    plain_at : (t : ℕ) → t < f.j → IsPlain g.frames (r t).cpu (r t).mem
+    plain_at t lt = subst (λ (s : State). IsPlain g.frames s.cpu s.mem) (at t) (f.plain t lt)
 
     calm_at : (t at' : ℕ) → t < f.j → (step_of (r t).cpu (r t).mem).went ≢ Faulted at'
     calm_at t at' lt fault =
@@ -159,7 +159,7 @@ module _ (keeps : SelectKeeps) (written : WrittenLaw) (survives : SurvivesLaw) (
     writes_at t a lt out there = writes_none (code_end image) a (effect_at (r t)) code_low (allowed_at t lt out) there
 
     module _ (safe : NoWar (items run)) where
-      plainly : GoesPlainly r f.j
+      plainly : GoesPlainly g.frames r f.j
       plainly = record {
         steps = is_run (memory_of image input);
         plain = plain_at;
@@ -180,13 +180,13 @@ module _ (keeps : SelectKeeps) (written : WrittenLaw) (survives : SurvivesLaw) (
         places = places_at;
         calm = calm_at;
         writes_plain = λ t a lt out there. writes_at t a lt out (or_right (is_buffer a) (is_fixed (code_end image) a) there);
-        returns = survives.returns image.words r f.j plainly has_code;
+        returns = survives.returns g.frames image.words r f.j plainly has_code;
       }
 
       owes : OwesUntil image.words (code_end image) r f.j
       owes =
           let x : LivesUntil image.words r f.j = lives image input rest.live f.j fits within.written rest.saved rest.enters keeps_to in
-          let y : IsSectioned r f.j = survives.sectioned r f.j plainly in
+          let y : IsSectioned r f.j = survives.sectioned g.frames r f.j plainly in
           record {
             safely = record {
               no_fault = calm_at;
@@ -206,7 +206,7 @@ module _ (keeps : SelectKeeps) (written : WrittenLaw) (survives : SurvivesLaw) (
               second_length = y.second_length;
             };
             flows = record {
-              returns = survives.returns image.words r f.j plainly has_code;
+              returns = survives.returns g.frames image.words r f.j plainly has_code;
               cuts = x.linked;
             };
           }

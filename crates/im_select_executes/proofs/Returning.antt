@@ -42,7 +42,7 @@ no_word i words past e =
 pub place_of_word : (a : ℕ) → a % 4 ≡ 0 → 4096 ≤ a → (i : ℕ) × (a ≡ address i)
 place_of_word a even low = ((a - 4096) / 4, omega arith)
 
-module _ (run : ℕ → State) (j : ℕ) (p : GoesPlainly run j) (words : List ℕ) (h : HasCode words run) where
+module _ {frames : List ℕ} (run : ℕ → State) (j : ℕ) (p : GoesPlainly frames run j) (words : List ℕ) (h : HasCode words run) where
   kept : (t a : ℕ) → t ≤ j → 4096 ≤ a → a < 1048576 → (run t).mem a ≡ (run 0).mem a
   kept t a le low high = code_kept run p.steps j (length words) p.plain p.calm h.beyond t a le low high
 

@@ -1,5 +1,5 @@
 -- Of all memory no section writes what it has read before writing it.
-use Rattle.std.proofs.Common.{◌≡◌, ℕ, zero, suc, ◌<◌, ◌≤◌, ◌⊎◌, inl, inr, true, false, not, cond, [], ◌∷◌, Option, Some, None, refl, sym, ap, ◌∙◌, subst, arith}
+use Rattle.std.proofs.Common.{◌≡◌, ℕ, zero, suc, ◌<◌, ◌≤◌, ◌⊎◌, inl, inr, true, false, not, cond, [], ◌∷◌, Option, Some, None, refl, sym, ap, ◌∙◌, subst, arith, List}
 use Rattle.std.specs.Prelude.{◌==◌, ◌||◌, nat_eq, unwrap_or}
 use Rattle.std.proofs.lemmas.Bool.Decides.{nat_tests}
 use Rattle.im_mem.specs.Memory.{Mem, little, is_place}
@@ -68,7 +68,7 @@ writes_low e = elim (some_or_none (writes_by e 0)) [
     by n0 n1 n2 n3 (suc (suc (suc zero))) lt = n3
     by n0 n1 n2 n3 (suc (suc (suc (suc a)))) lt = absurd (omega arith)
 
-module _ (touched_law : TouchedLaw) (sections : SectionsLaw) (run : ℕ → State) (j : ℕ) (p : GoesPlainly run j) where
+module _ (touched_law : TouchedLaw) (sections : SectionsLaw) {frames : List ℕ} (run : ℕ → State) (j : ℕ) (p : GoesPlainly frames run j) where
   ordered : IsOrderlyRun run j
   ordered = orderly_run run j p touched_law
 
@@ -142,6 +142,6 @@ module _ (touched_law : TouchedLaw) (sections : SectionsLaw) (run : ℕ → Stat
 
 pub survives : TouchedLaw → SectionsLaw → SurvivesLaw
 survives touched_law sections = record {
-  sectioned = λ run j p. sectioned touched_law sections run j p;
-  returns = λ words run j p h. returns run j p words h;
+  sectioned = λ frames run j p. sectioned touched_law sections run j p;
+  returns = λ frames words run j p h. returns run j p words h;
 }

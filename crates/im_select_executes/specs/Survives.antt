@@ -18,11 +18,11 @@ use Rattle.im_rv_reach.specs.Plain.{IsPlain}
 use Rattle.im_block.specs.Sections.{NoWar}
 use Rattle.im_select_relation.specs.Law.{machine_items}
 
--- the first j steps are plain, none faults, what they touch is in order, and of statics and stack no section writes what it has
--- read before writing it
-pub record GoesPlainly (run : ℕ → State) (j : ℕ) : Type 0 where
+-- the first j steps are plain, whatever frames move the stack pointer, none faults, what they touch is in order, and of statics
+-- and stack no section writes what it has read before writing it
+pub record GoesPlainly (frames : List ℕ) (run : ℕ → State) (j : ℕ) : Type 0 where
   pub steps : IsRun run
-  pub plain : (t : ℕ) → t < j → IsPlain (run t).cpu (run t).mem
+  pub plain : (t : ℕ) → t < j → IsPlain frames (run t).cpu (run t).mem
   pub calm : (t at : ℕ) → t < j → (step_of (run t).cpu (run t).mem).went ≢ Faulted at
   pub orderly : IsOrderly (touched j (run 0).cpu (run 0).mem)
   pub no_war : NoWar (machine_items (heard (touched j (run 0).cpu (run 0).mem)))
@@ -52,6 +52,6 @@ ReturnsBehindCalls words run j =
     → GoesBehindCall words run t
 
 pub record SurvivesLaw : Type 0 where
-  pub sectioned : (run : ℕ → State) (j : ℕ) → GoesPlainly run j → IsSectioned run j
-  pub returns : (words : List ℕ) (run : ℕ → State) (j : ℕ) → GoesPlainly run j → HasCode words run
+  pub sectioned : (frames : List ℕ) (run : ℕ → State) (j : ℕ) → GoesPlainly frames run j → IsSectioned run j
+  pub returns : (frames words : List ℕ) (run : ℕ → State) (j : ℕ) → GoesPlainly frames run j → HasCode words run
       → ReturnsBehindCalls words run j

@@ -14,11 +14,11 @@ use Rattle.im_rv.specs.Steps.{Cpu, sum_of, with_reg, extended}
 use Rattle.im_rv.proofs.Straight.{same_reg, other_reg}
 use Rattle.im_rv_reach.specs.Touches.{Loaded, Stored, heard}
 use Rattle.im_rv_reach.specs.Shown.{shown, left}
-use Rattle.im_rv_reach.specs.Plain.{in_runtime, IsBehindCall}
+use Rattle.im_rv_reach.specs.Plain.{MovesBy, in_runtime, IsBehindCall}
 use Rattle.im_rv_reach.specs.Reach.{plus, Reach}
 use Rattle.im_rv_reach.specs.Instructions.{Holds, Fixed, with_immediate, storing, jumping}
 use Rattle.im_rv_reach.specs.Routines.{Words}
-use Rattle.im_rv_reach.proofs.Reach.{plus_is, join, no_back, behind_kept, puts, leaps, loads, stores, then_stops, data_load, data_store, output_told, output_written, left_written}
+use Rattle.im_rv_reach.proofs.Reach.{plus_is, still, moves_at, moves_down, moves_up, join, no_back, behind_kept, puts, leaps, loads, stores, then_stops, data_load, data_store, output_told, output_written, left_written}
 use Rattle.im_rv_reach.proofs.Orderly.{joined, load_orderly, store_orderly}
 use Rattle.im_select_relation.specs.OperatorTables.{extension_of, cell_word}
 use Rattle.im_select_relation.proofs.Words.{word_small, word_of, word_wrap32}
@@ -48,7 +48,7 @@ cond_after p u g fuel words c m true one other h k = h refl
 cond_after p u g fuel words c m false one other h k = k refl
 
 -- a step before, that touches nothing, for which a unit of fuel may have gone
-pub first_after : (p : Linking) (u : Code) (g : Setting) (fuel more words : ℕ) (c d : Cpu) (m : Mem) (next : Next) → more ≤ fuel + 1 → Reach 1 [] c m d m → After p u g fuel words d m next → After p u g more (words + 1) c m next
+pub first_after : (p : Linking) (u : Code) (g : Setting) (fuel more words : ℕ) (c d : Cpu) (m : Mem) (next : Next) → more ≤ fuel + 1 → Reach g.frames 1 [] c m d m → After p u g fuel words d m next → After p u g more (words + 1) c m next
 first_after p u g fuel more words c d m (Goes s events) le reach a = record {
   n = plus 1 a.n;
   worth = (let z = a.worth in omega arith);
@@ -181,7 +181,7 @@ slots_left : (shape : Object → Option Shape) (a : ℕ) → SlotsShaped shape �
 slots_left shape a l o n sh e h = l o n sh e (closed shape a o sh h).1
 
 -- the stack is exhausted: the cause is stored, and the run ends
-exhausted : (p : Linking) (u : Code) (g : Setting) → Premises p u g → (s : State) (m : Mem) (x : ℕ → ℕ) (frames : List Mark) → Fixed p.image m → Words (limit_of g) g.capacity m → shown m ≡ s.output → x 0 ≡ 0 → StaticsLive u s.store.shape → Mapped p s.store.shape frames → Memory p s.store.shape s.store.values m → Finished p u 0 (record { pc = p.full; x = x }) m 1 (pos 0) s.output (variables (statics_of u) s.store) []
+exhausted : (p : Linking) (u : Code) (g : Setting) → Premises p u g → (s : State) (m : Mem) (x : ℕ → ℕ) (frames : List Mark) → Fixed p.image m → Words (limit_of g) g.capacity m → shown m ≡ s.output → x 0 ≡ 0 → StaticsLive u s.store.shape → Mapped p s.store.shape frames → Memory p s.store.shape s.store.values m → Finished p u g 0 (record { pc = p.full; x = x }) m 1 (pos 0) s.output (variables (statics_of u) s.store) []
 exhausted p u g l s m x frames fixed words seen x0 live mapped memory =
     let a : ℕ = sum_of (x 0) 1 in
     let y : ℕ → ℕ = with_reg x 5 a in
@@ -195,7 +195,7 @@ exhausted p u g l s m x frames fixed words seen x0 live mapped memory =
       touches = Nothing;
       orderly = refl;
       k = k;
-      stopped = then_stops 1 2 [] (Stored 8 4 ∷ []) _ _ m m k (puts p.image m p.full x (with_immediate Addi 5 0 1) a fixed l.at.one refl refl)
+      stopped = then_stops 1 2 [] (Stored 8 4 ∷ []) _ _ m m k (puts p.image m p.full x (with_immediate Addi 5 0 1) a fixed l.at.one refl refl (inl refl))
           (ends p.image m (p.full + 4) y 5 8 fixed (other_reg x 5 a 0 (omega arith) ∙ x0) (omega arith) (omega arith) refl l.at.cause l.at.stops);
       reason_is = told m 8 (y 5) (omega arith) ∙ e;
       status_is = little-other m 8 4 (y 5) 4 4 (inl (omega arith)) ∙ words.status_is ∙ sym (word_of 0 (omega arith));
@@ -209,16 +209,17 @@ record Lowered (p : Linking) (g : Setting) (m : Mem) (pc mid : ℕ) (x : ℕ →
   some : 0 < n
   few : n ≤ 4
   z : ℕ → ℕ
-  reach : Reach n (Loaded 28 4 ∷ []) (record { pc = pc; x = x }) m (record { pc = mid; x = z }) m
+  reach : Reach [] n (Loaded 28 4 ∷ []) (record { pc = pc; x = x }) m (record { pc = mid; x = z }) m
   z0 : z 0 ≡ 0
   z1 : z 1 ≡ x 1
+  z2 : z 2 ≡ x 2
   z5 : z 5 ≡ limit_of g
   z6 : z 6 ≡ pointer_at (depth + size)
   homes : (i : ℕ) → 6 < i → z i ≡ x i
 
 lower : (p : Linking) (g : Setting) (m : Mem) (pc target : ℕ) (x : ℕ → ℕ) (depth size : ℕ) (pro : Prologue p pc size target) → Fixed p.image m → Words (limit_of g) g.capacity m → x 0 ≡ 0 → x 2 ≡ pointer_at depth → size ≤ 65536 → depth ≤ 1048576 → Lowered p g m pc (pro.a + 4) x depth size
 lower p g m pc target x depth size pro fixed words x0 x2 small top =
-    let down : Added m pc x 6 (2 ^ 32 - size) pro.a = adds p m pc x 6 (2 ^ 32 - size) pro.a (omega arith) (omega arith) x0 fixed pro.lowered in
+    let down : Added [] m pc x 6 (2 ^ 32 - size) pro.a = adds p m pc x 6 (2 ^ 32 - size) pro.a (omega arith) (omega arith) x0 fixed (λ y v e f. inl refl) pro.lowered in
     let y0 : down.y 0 ≡ 0 = down.kept 0 (omega arith) (omega arith) ∙ x0 in
     let ea : sum_of (down.y 0) 28 ≡ 28 = omega arith in
     let lim : ℕ = little m 28 4 in
@@ -228,18 +229,19 @@ lower p g m pc target x depth size pro fixed words x0 x2 small top =
       some = (let q = plus_is down.n 1 in omega arith);
       few = (let q = plus_is down.n 1 in let k = down.few in omega arith);
       z = z;
-      reach = join down.n 1 [] (Loaded 28 4 ∷ []) _ _ _ m m m down.reach (loads p.image m pro.a down.y (with_immediate Lw 5 0 28) 28 4 Zero fixed pro.bound (ap (λ a. Loads a 4 Zero) ea) refl refl);
+      reach = join down.n 1 [] (Loaded 28 4 ∷ []) _ _ _ m m m down.reach (loads p.image m pro.a down.y (with_immediate Lw 5 0 28) 28 4 Zero fixed pro.bound (ap (λ a. Loads a 4 Zero) ea) refl refl (inl refl));
       z0 = other_reg down.y 5 lim 0 (omega arith) ∙ y0;
       z1 = other_reg down.y 5 lim 1 (omega arith) ∙ down.kept 1 (omega arith) (omega arith);
+      z2 = other_reg down.y 5 lim 2 (omega arith) ∙ down.kept 2 (omega arith) (omega arith);
       z5 = same_reg down.y 5 lim (omega arith) ∙ words.limit_is;
       z6 = other_reg down.y 5 lim 6 (omega arith) ∙ down.set ∙ ap (λ q. sum_of q (2 ^ 32 - size)) x2 ∙ lowered_word depth size small top;
       homes = λ i six. other_reg down.y 5 lim i (omega arith) ∙ down.kept i (omega arith) (omega arith);
     }
 
-enter_full : (p : Linking) (u : Code) (g : Setting) → Premises p u g → (s : State) (m : Mem) (pc mid next : ℕ) (x : ℕ → ℕ) (depth size : ℕ) (frames : List Mark) → Fixed p.image m → Words (limit_of g) g.capacity m → shown m ≡ s.output → StaticsLive u s.store.shape → Mapped p s.store.shape frames → Memory p s.store.shape s.store.values m → (w : Lowered p g m pc mid x depth size) → nat_lt (w.z 6) (w.z 5) ≡ true → Checked p mid next → Finished p u 9 (record { pc = pc; x = x }) m 1 (pos 0) s.output (variables (statics_of u) s.store) (Tests ∷ [])
+enter_full : (p : Linking) (u : Code) (g : Setting) → Premises p u g → (s : State) (m : Mem) (pc mid next : ℕ) (x : ℕ → ℕ) (depth size : ℕ) (frames : List Mark) → Fixed p.image m → Words (limit_of g) g.capacity m → shown m ≡ s.output → StaticsLive u s.store.shape → Mapped p s.store.shape frames → Memory p s.store.shape s.store.values m → (w : Lowered p g m pc mid x depth size) → nat_lt (w.z 6) (w.z 5) ≡ true → Checked p mid next → Finished p u g 9 (record { pc = pc; x = x }) m 1 (pos 0) s.output (variables (statics_of u) s.store) (Tests ∷ [])
 enter_full p u g l s m pc mid next x depth size frames fixed words seen live mapped memory w t check =
     let q : Passed m mid w.z p.full = no_room p m mid w.z next fixed t check in
-    let e : Finished p u 0 (record { pc = p.full; x = q.y }) m 1 (pos 0) s.output (variables (statics_of u) s.store) [] = exhausted p u g l s m q.y frames fixed words seen (q.kept 0 ∙ w.z0) live mapped memory in
+    let e : Finished p u g 0 (record { pc = p.full; x = q.y }) m 1 (pos 0) s.output (variables (statics_of u) s.store) [] = exhausted p u g l s m q.y frames fixed words seen (q.kept 0 ∙ w.z0) live mapped memory in
     let some_ : plus w.n (plus q.n e.n) ≡ w.n + (q.n + e.n) = plus_is w.n (plus q.n e.n) ∙ ap (λ z. w.n + z) (plus_is q.n e.n) in
     record {
       n = plus w.n (plus q.n e.n);
@@ -249,7 +251,7 @@ enter_full p u g l s m pc mid next x depth size frames fixed words seen live map
       touches = Testing [] (heard e.ts) e.touches;
       orderly = joined (Loaded 28 4 ∷ []) e.ts refl e.orderly;
       k = e.k;
-      stopped = then_stops w.n (plus q.n e.n) (Loaded 28 4 ∷ []) e.ts _ _ m m e.k w.reach (then_stops q.n e.n [] e.ts _ _ m m e.k q.reach e.stopped);
+      stopped = then_stops w.n (plus q.n e.n) (Loaded 28 4 ∷ []) e.ts _ _ m m e.k (still w.reach) (then_stops q.n e.n [] e.ts _ _ m m e.k (still q.reach) e.stopped);
       reason_is = e.reason_is;
       status_is = e.status_is;
       output_is = e.output_is;
@@ -271,7 +273,7 @@ entered i active fuel registers ws s f block = record {
 frame_place : (depth : ℕ) → depth % 4 ≡ 0 → is_place (pointer_at depth) 4 ≡ true
 frame_place depth a = let e : pointer_at depth % 4 ≡ 0 = omega arith in let f : pointer_at depth + 4 ≤ 5242880 = omega arith in grind (arith, nat_tests)
 
-enter_begun : (p : Linking) (u : Code) (g : Setting) → Premises p u g → (s : State) (i depth fuel ra first count : ℕ) (registers : ℕ → Value) (ws : List Frame) (m : Mem) (x : ℕ → ℕ) (f : Function) (block : Block) (pro : Prologue p (p.entry i) (frame_of g i) (p.place i f.entry)) → (first ≡ 10) ⊎ (count ≡ 0) → Fixed p.image m → Words (limit_of g) g.capacity m → shown m ≡ s.output → left m ≡ s.input → RegsMean p registers (pointer_at depth) x → x 1 ≡ ra → Memory p s.store.shape s.store.values m → Outer p u g s.store.shape m ws depth (s.begun + 1) ra → slice_get u.functions.items i ≡ Some f → FunctionAt p g i f → slice_get f.blocks.items f.entry ≡ Some block → (w : Lowered p g m (p.entry i) (pro.a + 4) x depth (frame_of g i)) → depth + frame_of g i ≤ g.stack → Reach 1 [] (record { pc = pro.a + 4; x = w.z }) m (record { pc = pro.b; x = w.z }) m → Advanced p u g fuel 9 (record { pc = p.entry i; x = x }) m (entered i (record { number = s.begun + 1; depth = depth + frame_of g i }) fuel (passed f.first_parameter first count registers) ws s f block) (Tests ∷ Saves (record { number = s.begun + 1; depth = depth + frame_of g i }) ∷ [])
+enter_begun : (p : Linking) (u : Code) (g : Setting) → Premises p u g → (s : State) (i depth fuel ra first count : ℕ) (registers : ℕ → Value) (ws : List Frame) (m : Mem) (x : ℕ → ℕ) (f : Function) (block : Block) (pro : Prologue p (p.entry i) (frame_of g i) (p.place i f.entry)) → (first ≡ 10) ⊎ (count ≡ 0) → Fixed p.image m → Words (limit_of g) g.capacity m → shown m ≡ s.output → left m ≡ s.input → RegsMean p registers (pointer_at depth) x → x 1 ≡ ra → Memory p s.store.shape s.store.values m → Outer p u g s.store.shape m ws depth (s.begun + 1) ra → slice_get u.functions.items i ≡ Some f → FunctionAt p g i f → slice_get f.blocks.items f.entry ≡ Some block → (w : Lowered p g m (p.entry i) (pro.a + 4) x depth (frame_of g i)) → depth + frame_of g i ≤ g.stack → Reach [] 1 [] (record { pc = pro.a + 4; x = w.z }) m (record { pc = pro.b; x = w.z }) m → Advanced p u g fuel 9 (record { pc = p.entry i; x = x }) m (entered i (record { number = s.begun + 1; depth = depth + frame_of g i }) fuel (passed f.first_parameter first count registers) ws s f block) (Tests ∷ Saves (record { number = s.begun + 1; depth = depth + frame_of g i }) ∷ [])
 enter_begun p u g l s i depth fuel ra first count registers ws m x f block pro alike fixed words seen unread regs x1 mem outer is at found w room_ check =
     let a : ℕ = s.begun + 1 in
     let size : ℕ = frame_of g i in
@@ -291,9 +293,10 @@ enter_begun p u g l s i depth fuel ra first count registers ws m x f block pro a
     let o : Object = object_of active Link in
     let ea : address p o ≡ sp = link_place p (record { activation = a; depth = depth + size }) l.at.first (omega arith) in
     let even : (depth + size) % 4 ≡ 0 = (let q = outer.even in let h = at.even in omega arith) in
-    let take_ = puts p.image m pro.b w.z (with_immediate Addi 2 6 0) v2 fixed pro.taken refl refl in
-    let save = stores p.image m (pro.b + 4) z2 (storing Sw 2 1 0) sp 4 ra fixed pro.saved (ap (λ b. Stores b 4 (z2 1)) e0 ∙ ap (λ b. Stores sp 4 b) e1) (frame_place (depth + size) even) (output_written m sp 4 ra (omega arith) (omega arith)) (data_store (in_runtime (pro.b + 4)) sp 4 (omega arith) (omega arith)) (inr (inl (omega arith))) in
-    let save' : Reach 1 (Stored (address p o) 4 ∷ []) (record { pc = pro.b + 4; x = z2 }) m (record { pc = pro.b + 4 + 4; x = z2 }) k = subst (λ q. Reach 1 (Stored q 4 ∷ []) (record { pc = pro.b + 4; x = z2 }) m (record { pc = pro.b + 4 + 4; x = z2 }) k) (sym ea) save in
+    let down : pointer_at depth ≡ sp + size = omega arith in
+    let take_ = puts {frames = g.frames} p.image m pro.b w.z (with_immediate Addi 2 6 0) v2 fixed pro.taken refl refl (moves_at g.frames (pointer_at depth) sp (w.z 2) (z2 2) (w.z2 ∙ regs.stack) e2 (moves_down g.frames i (pointer_at depth) sp down)) in
+    let save = stores {frames = g.frames} p.image m (pro.b + 4) z2 (storing Sw 2 1 0) sp 4 ra fixed pro.saved (ap (λ b. Stores b 4 (z2 1)) e0 ∙ ap (λ b. Stores sp 4 b) e1) (frame_place (depth + size) even) (output_written m sp 4 ra (omega arith) (omega arith)) (data_store (in_runtime (pro.b + 4)) sp 4 (omega arith) (omega arith)) (inr (inl (omega arith))) in
+    let save' : Reach g.frames 1 (Stored (address p o) 4 ∷ []) (record { pc = pro.b + 4; x = z2 }) m (record { pc = pro.b + 4 + 4; x = z2 }) k = subst (λ q. Reach g.frames 1 (Stored q 4 ∷ []) (record { pc = pro.b + 4; x = z2 }) m (record { pc = pro.b + 4 + 4; x = z2 }) k) (sym ea) save in
     record {
       n = plus w.n (suc (suc (suc j.n)));
       worth = omega arith;
@@ -304,10 +307,10 @@ enter_begun p u g l s i depth fuel ra first count registers ws m x f block pro a
       touches = subst (λ z. Touches p (Tests ∷ Saves active ∷ []) z) (sym (heard_store (address p o) 4 (omega arith) (omega arith))) (Testing (Saves active ∷ []) _ (Saving active [] [] Nothing));
       orderly = joined (Loaded 28 4 ∷ []) (Stored (address p o) 4 ∷ []) refl (store_orderly (address p o) 4 (omega arith) (omega arith));
       reach =
-          join w.n (suc (suc (suc j.n))) (Loaded 28 4 ∷ []) (Stored (address p o) 4 ∷ []) _ _ _ m m k w.reach
-          (join 1 (suc (suc j.n)) [] (Stored (address p o) 4 ∷ []) _ _ _ m m k check
+          join w.n (suc (suc (suc j.n))) (Loaded 28 4 ∷ []) (Stored (address p o) 4 ∷ []) _ _ _ m m k (still w.reach)
+          (join 1 (suc (suc j.n)) [] (Stored (address p o) 4 ∷ []) _ _ _ m m k (still check)
           (join 1 (suc j.n) [] (Stored (address p o) 4 ∷ []) _ _ _ m m k take_
-          (join 1 j.n (Stored (address p o) 4 ∷ []) [] _ _ _ m k k save' j.reach)));
+          (join 1 j.n (Stored (address p o) 4 ∷ []) [] _ _ _ m k k save' (still j.reach))));
       rel = record {
         fixed = fixed';
         regs = subst (λ z. RegsMean p (passed z first count registers) sp j.y) (sym at.received) (only_arguments p 10 first count registers sp j.y alike
@@ -361,7 +364,7 @@ call_after p u g l s c m r i count imm rest lands h code =
     let pc_even : c.pc % 4 ≡ 0 = word_even c.pc h.here in
     takes_after p u g s.fuel 10 c m s.output _ r.output (λ less.
     first_after p u g less (suc less) 9 c (record { pc = p.entry i; x = x }) m _ (omega arith)
-    (leaps p.image m c.pc c.x (jumping 1 imm) (sum_of c.pc 4) (p.entry i) r.fixed h (ap (Puts (sum_of c.pc 4)) lands) (no_back c.pc (jumping 1 imm) m (p.entry i) refl))
+    (leaps p.image m c.pc c.x (jumping 1 imm) (sum_of c.pc 4) (p.entry i) r.fixed h (ap (Puts (sum_of c.pc 4)) lands) (no_back c.pc (jumping 1 imm) m (p.entry i) refl) (inl refl))
     (enter_after p u g l s i less (c.pc + 4) 10 count s.frame.registers (waiting u g s.frame 10 rest ∷ s.callers) m x (inl refl) r.fixed r.words r.output r.input
     (set_scratch p s.frame.registers (pointer_at s.frame.active.depth) c.x 1 (sum_of c.pc 4) (omega arith) (omega arith) (omega arith) r.regs)
     (same_reg c.x 1 (sum_of c.pc 4) (omega arith) ∙ (let q = pc_low in omega arith))
@@ -380,12 +383,12 @@ call_after p u g l s c m r i count imm rest lands h code =
     })))
 
 -- the lines of a return
-record Returned (p : Linking) (m : Mem) (pc : ℕ) (x : ℕ → ℕ) (o : Object) (sp size : ℕ) : Type 0 where
+record Returned (frames : List ℕ) (p : Linking) (m : Mem) (pc : ℕ) (x : ℕ → ℕ) (o : Object) (sp size : ℕ) : Type 0 where
   n : ℕ
   some : 0 < n
   few : n ≤ 5
   y : ℕ → ℕ
-  reach : Reach n (Loaded (address p o) 4 ∷ []) (record { pc = pc; x = x }) m (record { pc = little m sp 4; x = y }) m
+  reach : Reach frames n (Loaded (address p o) 4 ∷ []) (record { pc = pc; x = x }) m (record { pc = little m sp 4; x = y }) m
   y0 : y 0 ≡ 0
   y2 : y 2 ≡ sp + size
   homes : (i : ℕ) → 6 < i → y i ≡ x i
@@ -396,17 +399,19 @@ word_place sp a b = let f : sp + 4 ≤ 5242880 = omega arith in grind (arith, na
 none_set : (x : ℕ → ℕ) (w i : ℕ) → with_reg x 0 w i ≡ x i
 none_set x w i = grind (arith, nat_tests)
 
-returns : (p : Linking) (m : Mem) (pc : ℕ) (x : ℕ → ℕ) (o : Object) (sp size : ℕ) → address p o ≡ sp → Fixed p.image m → x 0 ≡ 0 → x 2 ≡ sp → sp % 4 ≡ 0 → sp + size ≤ 3145728 → 384 ≤ sp → little m sp 4 % 4 ≡ 0 → little m sp 4 ≤ 1048576 → IsBehindCall p.image (little m sp 4) → Leaves p pc size → Returned p m pc x o sp size
-returns p m pc x o sp size at fixed x0 x2 even top low ra_even ra_low behind l =
+returns : {frames : List ℕ} (p : Linking) (m : Mem) (pc : ℕ) (x : ℕ → ℕ) (o : Object) (sp size : ℕ) → address p o ≡ sp → Fixed p.image m → x 0 ≡ 0 → x 2 ≡ sp → sp % 4 ≡ 0 → sp + size ≤ 3145728 → 384 ≤ sp → little m sp 4 % 4 ≡ 0 → little m sp 4 ≤ 1048576 → IsBehindCall p.image (little m sp 4) → MovesBy frames sp (sp + size) → Leaves p pc size → Returned frames p m pc x o sp size
+returns {frames} p m pc x o sp size at fixed x0 x2 even top low ra_even ra_low behind raise l =
     let ra : ℕ = little m sp 4 in
     let x1 : ℕ → ℕ = with_reg x 1 ra in
     let e : sum_of (x 2) 0 ≡ sp = omega arith in
-    let get = loads p.image m pc x (with_immediate Lw 1 2 0) sp 4 Zero fixed l.link (ap (λ a. Loads a 4 Zero) e) (word_place sp even (omega arith)) (data_load (in_runtime pc) sp 4 low) in
-    let get' : Reach 1 (Loaded (address p o) 4 ∷ []) (record { pc = pc; x = x }) m (record { pc = pc + 4; x = x1 }) m = subst (λ q. Reach 1 (Loaded q 4 ∷ []) (record { pc = pc; x = x }) m (record { pc = pc + 4; x = x1 }) m) (sym at) get in
-    let up : Added m (pc + 4) x1 2 size l.next = adds p m (pc + 4) x1 2 size l.next (omega arith) (omega arith) (other_reg x 1 ra 0 (omega arith) ∙ x0) fixed l.raised in
+    let get = loads {frames = frames} p.image m pc x (with_immediate Lw 1 2 0) sp 4 Zero fixed l.link (ap (λ a. Loads a 4 Zero) e) (word_place sp even (omega arith)) (data_load (in_runtime pc) sp 4 low) (inl refl) in
+    let get' : Reach frames 1 (Loaded (address p o) 4 ∷ []) (record { pc = pc; x = x }) m (record { pc = pc + 4; x = x1 }) m = subst (λ q. Reach frames 1 (Loaded q 4 ∷ []) (record { pc = pc; x = x }) m (record { pc = pc + 4; x = x1 }) m) (sym at) get in
+    let top_is : sum_of sp size ≡ sp + size = omega arith in
+    let up : Added frames m (pc + 4) x1 2 size l.next = adds p m (pc + 4) x1 2 size l.next (omega arith) (omega arith) (other_reg x 1 ra 0 (omega arith) ∙ x0) fixed
+    (λ y v f q. moves_at frames sp (sp + size) (y 2) v (f ∙ other_reg x 1 ra 2 (omega arith) ∙ x2) (q ∙ ap (λ z. sum_of z size) (other_reg x 1 ra 2 (omega arith) ∙ x2) ∙ top_is) raise) l.raised in
     let z1 : up.y 1 ≡ ra = up.kept 1 (omega arith) (omega arith) ∙ same_reg x 1 ra (omega arith) in
     let target : sum_of (up.y 1) 0 - sum_of (up.y 1) 0 % 2 ≡ ra = back_at ra (up.y 1) z1 ra_even ra_low in
-    let go = leaps p.image m l.next up.y (with_immediate Jalr 0 1 0) (sum_of l.next 4) ra fixed l.returns (ap (Puts (sum_of l.next 4)) target) (λ out is. behind_kept p.image m ra fixed behind) in
+    let go = leaps {frames = frames} p.image m l.next up.y (with_immediate Jalr 0 1 0) (sum_of l.next 4) ra fixed l.returns (ap (Puts (sum_of l.next 4)) target) (λ out is. behind_kept p.image m ra fixed behind) (inl refl) in
     record {
       n = suc (plus up.n 1);
       some = omega arith;
@@ -441,23 +446,23 @@ number_word p (Pointer o i) w z e m = absurd cc
 number_word p Unset w z e m = absurd cc
 
 -- back to the caller's place with a value in x10; a step more where it is none
-pub record Left (p : Linking) (m : Mem) (pc : ℕ) (x : ℕ → ℕ) (o : Object) (sp size : ℕ) (v : Value) : Type 0 where
+pub record Left (frames : List ℕ) (p : Linking) (m : Mem) (pc : ℕ) (x : ℕ → ℕ) (o : Object) (sp size : ℕ) (v : Value) : Type 0 where
   pub n : ℕ
   pub some : 0 < n
   pub few : n ≤ 6
   pub full : (z : ℤ) → number_of v ≡ Fine z → n ≤ 5
   pub y : ℕ → ℕ
-  pub reach : Reach n (Loaded (address p o) 4 ∷ []) (record { pc = pc; x = x }) m (record { pc = little m sp 4; x = y }) m
+  pub reach : Reach frames n (Loaded (address p o) 4 ∷ []) (record { pc = pc; x = x }) m (record { pc = little m sp 4; x = y }) m
   pub y0 : y 0 ≡ 0
   pub y2 : y 2 ≡ sp + size
   pub result : Means p v (y 10)
 
-abbrev pub Leaver : Linking → Mem → ℕ → (ℕ → ℕ) → ℕ → Value → Type 0
-Leaver p m pc x size v = (o : Object) (sp : ℕ) → address p o ≡ sp → Fixed p.image m → x 0 ≡ 0 → x 2 ≡ sp → sp % 4 ≡ 0 → sp + size ≤ 3145728 → 384 ≤ sp → little m sp 4 % 4 ≡ 0 → little m sp 4 ≤ 1048576 → IsBehindCall p.image (little m sp 4) → Left p m pc x o sp size v
+abbrev pub Leaver : List ℕ → Linking → Mem → ℕ → (ℕ → ℕ) → ℕ → Value → Type 0
+Leaver frames p m pc x size v = (o : Object) (sp : ℕ) → address p o ≡ sp → Fixed p.image m → x 0 ≡ 0 → x 2 ≡ sp → sp % 4 ≡ 0 → sp + size ≤ 3145728 → 384 ≤ sp → little m sp 4 % 4 ≡ 0 → little m sp 4 ≤ 1048576 → IsBehindCall p.image (little m sp 4) → MovesBy frames sp (sp + size) → Left frames p m pc x o sp size v
 
-pub gives : (p : Linking) (m : Mem) (pc : ℕ) (x : ℕ → ℕ) (size : ℕ) (v : Value) → Means p v (x 10) → Leaves p pc size → Leaver p m pc x size v
-gives p m pc x size v result leaves o sp at fixed x0 x2 even top low ra_even ra_low behind =
-    let b : Returned p m pc x o sp size = returns p m pc x o sp size at fixed x0 x2 even top low ra_even ra_low behind leaves in
+pub gives : {frames : List ℕ} (p : Linking) (m : Mem) (pc : ℕ) (x : ℕ → ℕ) (size : ℕ) (v : Value) → Means p v (x 10) → Leaves p pc size → Leaver frames p m pc x size v
+gives {frames} p m pc x size v result leaves o sp at fixed x0 x2 even top low ra_even ra_low behind raise =
+    let b : Returned frames p m pc x o sp size = returns p m pc x o sp size at fixed x0 x2 even top low ra_even ra_low behind raise leaves in
     record {
       n = b.n;
       some = b.some;
@@ -470,25 +475,25 @@ gives p m pc x size v result leaves o sp at fixed x0 x2 even top low ra_even ra_
       result = means_at p v _ (x 10) _ refl (b.homes 10 (omega arith)) result;
     }
 
-pub clears : (p : Linking) (m : Mem) (pc : ℕ) (x : ℕ → ℕ) (size : ℕ) → Holds p.image pc (with_immediate Addi 10 0 0) → Leaves p (pc + 4) size → Leaver p m pc x size Unset
-clears p m pc x size h leaves o sp at fixed x0 x2 even top low ra_even ra_low behind =
+pub clears : {frames : List ℕ} (p : Linking) (m : Mem) (pc : ℕ) (x : ℕ → ℕ) (size : ℕ) → Holds p.image pc (with_immediate Addi 10 0 0) → Leaves p (pc + 4) size → Leaver frames p m pc x size Unset
+clears {frames} p m pc x size h leaves o sp at fixed x0 x2 even top low ra_even ra_low behind raise =
     let zero_ : ℕ = sum_of (x 0) 0 in
     let x1 : ℕ → ℕ = with_reg x 10 zero_ in
-    let b : Returned p m (pc + 4) x1 o sp size = returns p m (pc + 4) x1 o sp size at fixed (other_reg x 10 zero_ 0 (omega arith) ∙ x0) (other_reg x 10 zero_ 2 (omega arith) ∙ x2) even top low ra_even ra_low behind leaves in
+    let b : Returned frames p m (pc + 4) x1 o sp size = returns p m (pc + 4) x1 o sp size at fixed (other_reg x 10 zero_ 0 (omega arith) ∙ x0) (other_reg x 10 zero_ 2 (omega arith) ∙ x2) even top low ra_even ra_low behind raise leaves in
     record {
       n = suc b.n;
       some = omega arith;
       few = (let f = b.few in omega arith);
       full = λ z e. absurd cc;
       y = b.y;
-      reach = join 1 b.n [] (Loaded (address p o) 4 ∷ []) _ _ _ m m m (puts p.image m pc x (with_immediate Addi 10 0 0) zero_ fixed h refl refl) b.reach;
+      reach = join 1 b.n [] (Loaded (address p o) 4 ∷ []) _ _ _ m m m (puts p.image m pc x (with_immediate Addi 10 0 0) zero_ fixed h refl refl (inl refl)) b.reach;
       y0 = b.y0;
       y2 = b.y2;
       result = tt;
     }
 
 -- back to a caller, or to the lines that end
-pub back_after : (p : Linking) (u : Code) (g : Setting) → Premises p u g → (s : State) (c : Cpu) (m : Mem) (r : Rel p u g s c m) (callers : List Frame) (v : Value) → Leaver p m c.pc c.x (frame_of g s.frame.function) v → Mapped p s.store.shape (mark s.frame ∷ marks callers) → Ordered g.stack (mark s.frame ∷ marks callers) → AllLinked s.store.shape (mark s.frame ∷ marks callers) → Chain p u g m s.frame.active.depth (frame_of g s.frame.function) callers → After p u g s.fuel 7 c m (back u g callers v s)
+pub back_after : (p : Linking) (u : Code) (g : Setting) → Premises p u g → (s : State) (c : Cpu) (m : Mem) (r : Rel p u g s c m) (callers : List Frame) (v : Value) → Leaver g.frames p m c.pc c.x (frame_of g s.frame.function) v → Mapped p s.store.shape (mark s.frame ∷ marks callers) → Ordered g.stack (mark s.frame ∷ marks callers) → AllLinked s.store.shape (mark s.frame ∷ marks callers) → Chain p u g m s.frame.active.depth (frame_of g s.frame.function) callers → After p u g s.fuel 7 c m (back u g callers v s)
 back_after p u g l s c m r [] v leave mapped ordered linked chain =
     let t = l.at.told in
     let depth : ℕ = s.frame.active.depth in
@@ -497,12 +502,12 @@ back_after p u g l s c m r [] v leave mapped ordered linked chain =
     let stack = l.at.stack in
     let at : address p o ≡ pointer_at depth = link_place p (mark s.frame) l.at.first linked.0 in
     let four = (l.at.functions s.frame.function r.f r.is).layout.inside Link link_shape refl in
-    let b : Left p m c.pc c.x o (pointer_at depth) size v = leave o (pointer_at depth) at r.fixed r.regs.zero_reg r.regs.stack (let q = ordered.1 in let k = ordered.0 in omega arith) (let q = chain.1 in let k = ordered.0 in omega arith) (let k = ordered.0 in omega arith) (chain_even p.begin (little m (pointer_at depth) 4) chain.0 (word_even (p.begin + 4) t.here)) (let q = chain.0 in let k = t.low in omega arith) (subst (λ z. IsBehindCall p.image z) (sym chain.0) (record { at = p.begin; behind = refl; imm = l.at.call; call = l.at.begins })) in
+    let b : Left g.frames p m c.pc c.x o (pointer_at depth) size v = leave o (pointer_at depth) at r.fixed r.regs.zero_reg r.regs.stack (let q = ordered.1 in let k = ordered.0 in omega arith) (let q = chain.1 in let k = ordered.0 in omega arith) (let k = ordered.0 in omega arith) (chain_even p.begin (little m (pointer_at depth) 4) chain.0 (word_even (p.begin + 4) t.here)) (let q = chain.0 in let k = t.low in omega arith) (subst (λ z. IsBehindCall p.image z) (sym chain.0) (record { at = p.begin; behind = refl; imm = l.at.call; call = l.at.begins })) (moves_up g.frames s.frame.function (pointer_at depth) (pointer_at depth + size) refl) in
     checked_after p u g s.fuel 7 c m _ _ (λ z f.
     let k : Mem = written m 4 (bytes_of 4 (b.y 10)) in
     let y10 : b.y 10 ≡ word z = number_word p v (b.y 10) z f b.result in
     let zlow : word z < 2 ^ 32 = word_small z in
-    let reach : Reach b.n (Loaded (address p o) 4 ∷ []) c m (record { pc = p.begin + 4; x = b.y }) m = subst (λ q. Reach b.n (Loaded (address p o) 4 ∷ []) c m (record { pc = q; x = b.y }) m) chain.0 b.reach in
+    let reach : Reach g.frames b.n (Loaded (address p o) 4 ∷ []) c m (record { pc = p.begin + 4; x = b.y }) m = subst (λ q. Reach g.frames b.n (Loaded (address p o) 4 ∷ []) c m (record { pc = q; x = b.y }) m) chain.0 b.reach in
     record {
       n = plus b.n 2;
       some = (let q = plus_is b.n 2 in omega arith);
@@ -531,7 +536,7 @@ back_after p u g l s c m r (w ∷ ws) v leave mapped ordered linked chain =
     let bk : Back p u g (little m (pointer_at depth) 4) w h = chain.1.1 in
     let up : depth ≡ w.active.depth + size = chain.0 in
     let deep = ordered.0 in
-    let b : Left p m c.pc c.x o (pointer_at depth) size v = leave o (pointer_at depth) at r.fixed r.regs.zero_reg r.regs.stack (let q = ordered.1 in omega arith) (omega arith) (omega arith) bk.even bk.low bk.behind in
+    let b : Left g.frames p m c.pc c.x o (pointer_at depth) size v = leave o (pointer_at depth) at r.fixed r.regs.zero_reg r.regs.stack (let q = ordered.1 in omega arith) (omega arith) (omega arith) bk.even bk.low bk.behind (moves_up g.frames s.frame.function (pointer_at depth) (pointer_at depth + size) refl) in
     record {
       n = b.n;
       worth = omega arith;

@@ -1,5 +1,5 @@
 -- The ends of runs, and lines that change the stack pointer.
-use Rattle.std.proofs.Common.{◌≡◌, ◌≢◌, ℕ, zero, ◌+◌, ◌*◌, ◌%◌, ◌^◌, ◌<◌, ◌≤◌, inl, inr, Bool, true, false, cond, [], ◌∷◌, sym, ap, ◌∙◌, subst, refl, arith}
+use Rattle.std.proofs.Common.{◌≡◌, ◌≢◌, ℕ, zero, ◌+◌, ◌*◌, ◌%◌, ◌^◌, ◌<◌, ◌≤◌, inl, inr, Bool, true, false, cond, [], ◌∷◌, sym, ap, ◌∙◌, subst, refl, arith, List}
 use Rattle.std.specs.Prelude.{◌==◌, nat_lt, not}
 use Rattle.std.proofs.lemmas.Bool.Decides.{nat_tests}
 use Rattle.im_num.specs.Bytes.{bytes_of}
@@ -19,10 +19,10 @@ use Rattle.im_store.specs.Objects.{Value}
 use Rattle.im_select_relation.specs.OperatorTables.{by_sign}
 use Rattle.im_select_relation.proofs.Comparisons.{word_less, outcome, no_difference, some_difference}
 use Rattle.im_rv_reach.specs.Touches.{Stored}
-use Rattle.im_rv_reach.specs.Plain.{in_runtime}
+use Rattle.im_rv_reach.specs.Plain.{MovesBy, in_runtime}
 use Rattle.im_rv_reach.specs.Reach.{Reach, Stopped}
 use Rattle.im_rv_reach.specs.Instructions.{Holds, Fixed, with_immediate, on_registers, storing, upper, jumping, branching}
-use Rattle.im_rv_reach.proofs.Reach.{plus_is, nothing, join, next_pc, no_back, puts, leaps, passes, stores, halts, then_stops, output_told, low_store}
+use Rattle.im_rv_reach.proofs.Reach.{plus_is, still, keeps, nothing, join, next_pc, no_back, puts, leaps, passes, stores, halts, then_stops, output_told, low_store}
 use Rattle.im_rv_reach.specs.Reach.{plus}
 use Rattle.im_select_relation.specs.Linking.{Linking}
 use Rattle.im_select_relation.specs.Selected.{Constant, Small, Large, Adds, Short, Long, Jumps, Continues, Falls, Leaps, Checked, Direct, Around, Test, nonzero, below, not_below, comparing, Tested, Reached, Missed, Hopped, Skipped}
@@ -30,7 +30,7 @@ use Rattle.im_select_relation.proofs.Registers.{RegsMean, means_at}
 use Rattle.im_select_relation.proofs.Cells.{little_back}
 
 -- a word is stored in the low page, and the run ends
-pub ends : (image m : Mem) (pc : ℕ) (x : ℕ → ℕ) (rs imm : ℕ) → Fixed image m → x 0 ≡ 0 → imm + 4 ≤ 12 → 4 ≤ imm → is_place imm 4 ≡ true → Holds image pc (storing Sw 0 rs imm) → Holds image (pc + 4) (with_immediate Ebreak 0 0 0) → Stopped 2 (Stored imm 4 ∷ []) (record { pc = pc; x = x }) m (written m imm (bytes_of 4 (x rs)))
+pub ends : {frames : List ℕ} (image m : Mem) (pc : ℕ) (x : ℕ → ℕ) (rs imm : ℕ) → Fixed image m → x 0 ≡ 0 → imm + 4 ≤ 12 → 4 ≤ imm → is_place imm 4 ≡ true → Holds image pc (storing Sw 0 rs imm) → Holds image (pc + 4) (with_immediate Ebreak 0 0 0) → Stopped frames 2 (Stored imm 4 ∷ []) (record { pc = pc; x = x }) m (written m imm (bytes_of 4 (x rs)))
 ends image m pc x rs imm fixed x0 less some place h k =
     let m' : Mem = written m imm (bytes_of 4 (x rs)) in
     let e : sum_of (x 0) imm ≡ imm = omega arith in
@@ -49,11 +49,11 @@ pub record Loaded (m : Mem) (pc : ℕ) (x : ℕ → ℕ) (rd n next : ℕ) : Typ
   pub some : 0 < count
   pub few : count ≤ 2
   pub y : ℕ → ℕ
-  pub reach : Reach count [] (record { pc = pc; x = x }) m (record { pc = next; x = y }) m
+  pub reach : Reach [] count [] (record { pc = pc; x = x }) m (record { pc = next; x = y }) m
   pub set : y rd ≡ n
   pub kept : (i : ℕ) → i ≢ rd → y i ≡ x i
 
-pub constant : (p : Linking) (m : Mem) (pc : ℕ) (x : ℕ → ℕ) (rd n next : ℕ) → 0 < rd → x 0 ≡ 0 → Fixed p.image m → Constant p pc rd n next → Loaded m pc x rd n next
+pub constant : (p : Linking) (m : Mem) (pc : ℕ) (x : ℕ → ℕ) (rd n next : ℕ) → 2 < rd → x 0 ≡ 0 → Fixed p.image m → Constant p pc rd n next → Loaded m pc x rd n next
 constant p m pc x rd k next pos x0 fixed (Small n small h) =
     let v : ℕ = sum_of (x 0) n in
     let e : v ≡ n = omega arith in
@@ -62,57 +62,58 @@ constant p m pc x rd k next pos x0 fixed (Small n small h) =
       some = omega arith;
       few = omega arith;
       y = with_reg x rd v;
-      reach = puts p.image m pc x (with_immediate Addi rd 0 n) v fixed h refl refl;
-      set = same_reg x rd v pos ∙ e;
+      reach = puts p.image m pc x (with_immediate Addi rd 0 n) v fixed h refl refl (inl (keeps x rd v pos));
+      set = same_reg x rd v (omega arith) ∙ e;
       kept = λ i a. other_reg x rd v i a;
     }
 constant p m pc x rd k next pos x0 fixed (Large n hi lo split h l) =
     let a : ℕ = hi * 4096 % 2 ^ 32 in
     let x1 : ℕ → ℕ = with_reg x rd a in
     let b : ℕ = sum_of (x1 rd) lo in
-    let e : b ≡ n = ap (λ z. sum_of z lo) (same_reg x rd a pos) ∙ split in
+    let e : b ≡ n = ap (λ z. sum_of z lo) (same_reg x rd a (omega arith)) ∙ split in
     record {
       count = 2;
       some = omega arith;
       few = omega arith;
       y = with_reg x1 rd b;
-      reach = join 1 1 [] [] _ _ _ m m m (puts p.image m pc x (upper rd hi) a fixed h refl refl) (puts p.image m (pc + 4) x1 (with_immediate Addi rd rd lo) b fixed l refl refl);
-      set = same_reg x1 rd b pos ∙ e;
+      reach = join 1 1 [] [] _ _ _ m m m (puts p.image m pc x (upper rd hi) a fixed h refl refl (inl (keeps x rd a pos))) (puts p.image m (pc + 4) x1 (with_immediate Addi rd rd lo) b fixed l refl refl (inl (keeps x1 rd b pos)));
+      set = same_reg x1 rd b (omega arith) ∙ e;
       kept = λ i n5. other_reg x1 rd b i n5 ∙ other_reg x rd a i n5;
     }
 
 -- lines that put the stack pointer plus a word into rd
-pub record Added (m : Mem) (pc : ℕ) (x : ℕ → ℕ) (rd by next : ℕ) : Type 0 where
+pub record Added (frames : List ℕ) (m : Mem) (pc : ℕ) (x : ℕ → ℕ) (rd by next : ℕ) : Type 0 where
   pub n : ℕ
   pub some : 0 < n
   pub few : n ≤ 3
   pub y : ℕ → ℕ
-  pub reach : Reach n [] (record { pc = pc; x = x }) m (record { pc = next; x = y }) m
+  pub reach : Reach frames n [] (record { pc = pc; x = x }) m (record { pc = next; x = y }) m
   pub set : y rd ≡ sum_of (x 2) by
   pub kept : (i : ℕ) → i ≢ rd → i ≢ 5 → y i ≡ x i
 
-pub adds : (p : Linking) (m : Mem) (pc : ℕ) (x : ℕ → ℕ) (rd by next : ℕ) → 0 < rd → rd ≢ 5 → x 0 ≡ 0 → Fixed p.image m → Adds p pc rd by next → Added m pc x rd by next
-adds p m pc x rd by next pos no5 x0 fixed (Short h) =
+pub adds : {frames : List ℕ} (p : Linking) (m : Mem) (pc : ℕ) (x : ℕ → ℕ) (rd by next : ℕ) → 0 < rd → rd ≢ 5 → x 0 ≡ 0 → Fixed p.image m → ((y : ℕ → ℕ) (v : ℕ) → y 2 ≡ x 2 → v ≡ sum_of (x 2) by → MovesBy frames (y 2) (with_reg y rd v 2)) → Adds p pc rd by next → Added frames m pc x rd by next
+adds p m pc x rd by next pos no5 x0 fixed moves (Short h) =
     let v : ℕ = sum_of (x 2) by in
     record {
       n = 1;
       some = omega arith;
       few = omega arith;
       y = with_reg x rd v;
-      reach = puts p.image m pc x (with_immediate Addi rd 2 by) v fixed h refl refl;
+      reach = puts p.image m pc x (with_immediate Addi rd 2 by) v fixed h refl refl (moves x v refl refl);
       set = same_reg x rd v pos;
       kept = λ i a b. other_reg x rd v i a;
     }
-adds p m pc x rd by next pos no5 x0 fixed (Long mid h l) =
+adds p m pc x rd by next pos no5 x0 fixed moves (Long mid h l) =
     let k : Loaded m pc x 5 by mid = constant p m pc x 5 by mid (omega arith) x0 fixed h in
     let v : ℕ = sum_of (k.y 2) (k.y 5) in
+    let v_is : v ≡ sum_of (x 2) by = ap (λ z. sum_of z (k.y 5)) (k.kept 2 (omega arith)) ∙ ap (λ z. sum_of (x 2) z) k.set in
     record {
       n = plus k.count 1;
       some = (let q = plus_is k.count 1 in omega arith);
       few = (let q = plus_is k.count 1 in let z = k.few in omega arith);
       y = with_reg k.y rd v;
-      reach = join k.count 1 [] [] _ _ _ m m m k.reach (puts p.image m mid k.y (on_registers Add rd 2 5) v fixed l refl refl);
-      set = same_reg k.y rd v pos ∙ ap (λ z. sum_of z (k.y 5)) (k.kept 2 (omega arith)) ∙ ap (λ z. sum_of (x 2) z) k.set;
+      reach = join k.count 1 [] [] _ _ _ m m m (still k.reach) (puts p.image m mid k.y (on_registers Add rd 2 5) v fixed l refl refl (moves k.y v (k.kept 2 (omega arith)) v_is));
+      set = same_reg k.y rd v pos ∙ v_is;
       kept = λ i n5 m5. other_reg k.y rd v i n5 ∙ k.kept i m5;
     }
 
@@ -127,7 +128,7 @@ regs_still p registers sp x y m zero_ same = record {
 -- a jump
 pub record Jumped (m : Mem) (pc : ℕ) (x : ℕ → ℕ) (target : ℕ) : Type 0 where
   pub y : ℕ → ℕ
-  pub reach : Reach 1 [] (record { pc = pc; x = x }) m (record { pc = target; x = y }) m
+  pub reach : Reach [] 1 [] (record { pc = pc; x = x }) m (record { pc = target; x = y }) m
   pub kept : (i : ℕ) → y i ≡ x i
 
 none_set : (x : ℕ → ℕ) (w i : ℕ) → with_reg x 0 w i ≡ x i
@@ -136,7 +137,7 @@ none_set x w i = grind (arith, nat_tests)
 pub jumps : (p : Linking) (m : Mem) (pc : ℕ) (x : ℕ → ℕ) (target : ℕ) → Fixed p.image m → Jumps p pc target → Jumped m pc x target
 jumps p m pc x target fixed j = record {
   y = with_reg x 0 (sum_of pc 4);
-  reach = leaps p.image m pc x (jumping 0 j.imm) (sum_of pc 4) target fixed j.jumps (ap (Puts (sum_of pc 4)) j.lands) (no_back pc (jumping 0 j.imm) m target refl);
+  reach = leaps p.image m pc x (jumping 0 j.imm) (sum_of pc 4) target fixed j.jumps (ap (Puts (sum_of pc 4)) j.lands) (no_back pc (jumping 0 j.imm) m target refl) (inl refl);
   kept = none_set x (sum_of pc 4);
 }
 
@@ -145,7 +146,7 @@ pub record Continued (m : Mem) (pc : ℕ) (x : ℕ → ℕ) (target : ℕ) : Typ
   pub n : ℕ
   pub few : n ≤ 1
   pub y : ℕ → ℕ
-  pub reach : Reach n [] (record { pc = pc; x = x }) m (record { pc = target; x = y }) m
+  pub reach : Reach [] n [] (record { pc = pc; x = x }) m (record { pc = target; x = y }) m
   pub kept : (i : ℕ) → y i ≡ x i
 
 pub continues : (p : Linking) (m : Mem) (pc : ℕ) (x : ℕ → ℕ) (target : ℕ) → Fixed p.image m → Continues p pc target → Continued m pc x target
@@ -153,7 +154,7 @@ continues p m pc x target fixed (Falls e) = record {
   n = zero;
   few = omega arith;
   y = x;
-  reach = subst (λ q. Reach zero [] (record { pc = pc; x = x }) m (record { pc = q; x = x }) m) e (nothing (record { pc = pc; x = x }) m);
+  reach = subst (λ q. Reach [] zero [] (record { pc = pc; x = x }) m (record { pc = q; x = x }) m) e (nothing (record { pc = pc; x = x }) m);
   kept = λ i. refl;
 }
 continues p m pc x target fixed (Leaps j) =
@@ -166,10 +167,10 @@ pub record Passed (m : Mem) (pc : ℕ) (x : ℕ → ℕ) (target : ℕ) : Type 0
   pub some : 0 < n
   pub few : n ≤ 2
   pub y : ℕ → ℕ
-  pub reach : Reach n [] (record { pc = pc; x = x }) m (record { pc = target; x = y }) m
+  pub reach : Reach [] n [] (record { pc = pc; x = x }) m (record { pc = target; x = y }) m
   pub kept : (i : ℕ) → y i ≡ x i
 
-pub has_room : (p : Linking) (m : Mem) (pc : ℕ) (x : ℕ → ℕ) (next : ℕ) → Fixed p.image m → nat_lt (x 6) (x 5) ≡ false → Checked p pc next → Reach 1 [] (record { pc = pc; x = x }) m (record { pc = next; x = x }) m
+pub has_room : (p : Linking) (m : Mem) (pc : ℕ) (x : ℕ → ℕ) (next : ℕ) → Fixed p.image m → nat_lt (x 6) (x 5) ≡ false → Checked p pc next → Reach [] 1 [] (record { pc = pc; x = x }) m (record { pc = next; x = x }) m
 has_room p m pc x next fixed t (Direct imm lands h) =
     passes p.image m pc x (branching Bltu 6 5 imm) (pc + 4) fixed h (ap (λ b. Passes (cond b (sum_of pc imm) (sum_of pc 4))) t ∙ ap Passes (next_pc p.image pc (branching Bltu 6 5 imm) h))
 has_room p m pc x next fixed t (Around h j) =
@@ -196,7 +197,7 @@ no_room p m pc x next fixed t (Around h j) =
     }
 
 -- one step that passes on, and from there to the place
-onward : (p : Linking) (m : Mem) (pc mid : ℕ) (x : ℕ → ℕ) (target : ℕ) → Fixed p.image m → Reach 1 [] (record { pc = pc; x = x }) m (record { pc = mid; x = x }) m → Continues p mid target → Passed m pc x target
+onward : (p : Linking) (m : Mem) (pc mid : ℕ) (x : ℕ → ℕ) (target : ℕ) → Fixed p.image m → Reach [] 1 [] (record { pc = pc; x = x }) m (record { pc = mid; x = x }) m → Continues p mid target → Passed m pc x target
 onward p m pc mid x target fixed reach c =
     let k = continues p m mid x target fixed c in
     record {
@@ -209,7 +210,7 @@ onward p m pc mid x target fixed reach c =
     }
 
 -- a branch that is taken, and one that isn't
-taken : (m : Mem) (pc : ℕ) (x : ℕ → ℕ) (target : ℕ) → Reach 1 [] (record { pc = pc; x = x }) m (record { pc = target; x = x }) m → Passed m pc x target
+taken : (m : Mem) (pc : ℕ) (x : ℕ → ℕ) (target : ℕ) → Reach [] 1 [] (record { pc = pc; x = x }) m (record { pc = target; x = x }) m → Passed m pc x target
 taken m pc x target reach = record { n = 1; some = omega arith; few = omega arith; y = x; reach = reach; kept = λ i. refl }
 
 -- over one instruction

@@ -13,7 +13,7 @@ use Rattle.im_rv_reach.specs.Touches.{Loaded, Stored}
 use Rattle.im_rv_reach.specs.Plain.{in_runtime, returns_by}
 use Rattle.im_rv_reach.specs.Reach.{plus, Reach}
 use Rattle.im_rv_reach.specs.Instructions.{Holds, Fixed, with_immediate, storing}
-use Rattle.im_rv_reach.proofs.Reach.{plus_is, join, puts, loads, stores, data_load, data_store, output_written, left_written}
+use Rattle.im_rv_reach.proofs.Reach.{still, keeps, plus_is, join, puts, loads, stores, data_load, data_store, output_written, left_written}
 use Rattle.im_rv_reach.proofs.Orderly.{load_orderly, store_orderly}
 use Rattle.im_select_relation.specs.OperatorTables.{load_op, store_op, extension_of, cell_word}
 use Rattle.im_store.specs.Checks.{Checked, Fine}
@@ -36,7 +36,7 @@ pub record Gave (m : Mem) (pc : ℕ) (x : ℕ → ℕ) (to w next words : ℕ) :
   pub n : ℕ
   pub few : n ≤ words
   pub y : ℕ → ℕ
-  pub reach : Reach n [] (record { pc = pc; x = x }) m (record { pc = next; x = y }) m
+  pub reach : Reach [] n [] (record { pc = pc; x = x }) m (record { pc = next; x = y }) m
   pub set : y to ≡ w
   pub kept : (i : ℕ) → i ≢ to → i ≢ 5 → i ≢ 6 → y i ≡ x i
 
@@ -52,24 +52,24 @@ regs_to p registers sp x y to v six m kept mean = record {
 }
 
 -- one instruction
-pub gave_one : (image m : Mem) (pc : ℕ) (x : ℕ → ℕ) (l : Instruction) (v : ℕ) → 0 < l.rd → Fixed image m → Holds image pc l → row l.op pc (x l.rs1) (x l.rs2) l.imm ≡ Puts v (sum_of pc 4) → returns_by l.op ≡ false → Gave m pc x l.rd v (pc + 4) 1
+pub gave_one : (image m : Mem) (pc : ℕ) (x : ℕ → ℕ) (l : Instruction) (v : ℕ) → 2 < l.rd → Fixed image m → Holds image pc l → row l.op pc (x l.rs1) (x l.rs2) l.imm ≡ Puts v (sum_of pc 4) → returns_by l.op ≡ false → Gave m pc x l.rd v (pc + 4) 1
 gave_one image m pc x l v some fixed h e on = record {
   n = 1;
   few = omega arith;
   y = with_reg x l.rd v;
-  reach = puts image m pc x l v fixed h e on;
-  set = same_reg x l.rd v some;
+  reach = puts image m pc x l v fixed h e on (inl (keeps x l.rd v some));
+  set = same_reg x l.rd v (omega arith);
   kept = λ i ne a b. other_reg x l.rd v i ne;
 }
 
 -- steps that leave the other registers, and one more instruction
-pub gave_more : (image m : Mem) (pc mid : ℕ) (x y : ℕ → ℕ) (n words : ℕ) (l : Instruction) (v : ℕ) → n ≤ words → 0 < l.rd → Fixed image m → Reach n [] (record { pc = pc; x = x }) m (record { pc = mid; x = y }) m → ((i : ℕ) → i ≢ l.rd → i ≢ 5 → i ≢ 6 → y i ≡ x i) → Holds image mid l → row l.op mid (y l.rs1) (y l.rs2) l.imm ≡ Puts v (sum_of mid 4) → returns_by l.op ≡ false → Gave m pc x l.rd v (mid + 4) (words + 1)
+pub gave_more : (image m : Mem) (pc mid : ℕ) (x y : ℕ → ℕ) (n words : ℕ) (l : Instruction) (v : ℕ) → n ≤ words → 2 < l.rd → Fixed image m → Reach [] n [] (record { pc = pc; x = x }) m (record { pc = mid; x = y }) m → ((i : ℕ) → i ≢ l.rd → i ≢ 5 → i ≢ 6 → y i ≡ x i) → Holds image mid l → row l.op mid (y l.rs1) (y l.rs2) l.imm ≡ Puts v (sum_of mid 4) → returns_by l.op ≡ false → Gave m pc x l.rd v (mid + 4) (words + 1)
 gave_more image m pc mid x y n words l v few some fixed reach kept h e on = record {
   n = plus n 1;
   few = (let q = plus_is n 1 in omega arith);
   y = with_reg y l.rd v;
-  reach = join n 1 [] [] _ _ _ m m m reach (puts image m mid y l v fixed h e on);
-  set = same_reg y l.rd v some;
+  reach = join n 1 [] [] _ _ _ m m m reach (puts image m mid y l v fixed h e on (inl (keeps y l.rd v some)));
+  set = same_reg y l.rd v (omega arith);
   kept = λ i ne a b. other_reg y l.rd v i ne ∙ kept i ne a b;
 }
 
@@ -85,7 +85,7 @@ computes_after p u g s c m r words to w next o rest six q code mean =
       ts = [];
       touches = Nothing;
       orderly = refl;
-      reach = q.reach;
+      reach = still q.reach;
       rel = moved_rel p u g s c m r next q.y (record s.frame.spot { rest = rest }) (with_register s.frame.registers to v) s.fuel code
           (regs_to p s.frame.registers (pointer_at s.frame.active.depth) c.x q.y to v six r.regs q.kept (means_at p v v w (q.y to) refl q.set (mean v e)));
     })
@@ -132,7 +132,7 @@ reads_after p u g s c m r to w base imm next k site o rest six size b h code fin
     let rm = room p s.store.shape _ ob i k r.mapped cell in
     let at : sum_of (b.y base) imm ≡ address p ob + i = b.sum ∙ found_at p f.at k w rm q.lands in
     let word : ℕ = cell_word m k (address p ob + i) in
-    let step = loads p.image m next b.y (with_immediate (load_op k) to base imm) (address p ob + i) (kind_size k) (extension_of k) r.fixed h (load_row k next (b.y base) (b.y 0) imm ∙ ap (λ a. Loads a (kind_size k) (extension_of k)) at) rm.place (data_load (in_runtime next) (address p ob + i) (kind_size k) (let z = rm.low in omega arith)) in
+    let step = loads {frames = g.frames} p.image m next b.y (with_immediate (load_op k) to base imm) (address p ob + i) (kind_size k) (extension_of k) r.fixed h (load_row k next (b.y base) (b.y 0) imm ∙ ap (λ a. Loads a (kind_size k) (extension_of k)) at) rm.place (data_load (in_runtime next) (address p ob + i) (kind_size k) (let z = rm.low in omega arith)) (inl (keeps b.y to word (omega arith))) in
     let t : Touches p (Reads site s.frame.active ob i ∷ []) (Loaded (address p ob + i) (kind_size k) ∷ []) = subst (λ z. Touches p (Reads site s.frame.active ob i ∷ []) (Loaded (address p ob + i) z ∷ [])) size (Reading site s.frame.active ob i [] [] Nothing) in
     record {
       n = plus b.n 1;
@@ -143,7 +143,7 @@ reads_after p u g s c m r to w base imm next k site o rest six size b h code fin
       ts = Loaded (address p ob + i) (kind_size k) ∷ [];
       touches = subst (λ z. Touches p (Reads site s.frame.active ob i ∷ []) z) (sym (heard_load (address p ob + i) (kind_size k) rm.low (let z = rm.high in omega arith))) t;
       orderly = load_orderly (address p ob + i) (kind_size k) rm.low (let z = rm.high in omega arith);
-      reach = join b.n 1 [] (Loaded (address p ob + i) (kind_size k) ∷ []) _ _ _ m m m b.reach step;
+      reach = join b.n 1 [] (Loaded (address p ob + i) (kind_size k) ∷ []) _ _ _ m m m (still b.reach) step;
       rel = moved_rel p u g s c m r (next + 4) (with_reg b.y to word) (record s.frame.spot { rest = rest }) (with_register s.frame.registers to f.value) s.fuel code
           (set_home p s.frame.registers (pointer_at s.frame.active.depth) b.y to f.value word six b.regs (means_at p (s.store.values ob i) f.value word word (sym q.read.is) refl (r.memory ob i k cell)));
     })
@@ -167,7 +167,7 @@ writes_after p u g at0 s c m r from w base imm next k site o rest no5 size b h c
     let at : sum_of (b.y base) imm ≡ address p ob + i = b.sum ∙ found_at p l.at k w rm q.lands in
     let k' : Mem = written m (address p ob + i) (bytes_of (kind_size k) (b.y from)) in
     let top : address p ob + i + kind_size k ≤ 3145728 = (let z = rm.high in omega arith) in
-    let step = stores p.image m next b.y (storing (store_op k) base from imm) (address p ob + i) (kind_size k) (b.y from) r.fixed h (store_row k next (b.y base) (b.y from) imm ∙ ap (λ a. Stores a (kind_size k) (b.y from)) at) rm.place (output_written m (address p ob + i) (kind_size k) (b.y from) rm.low top) (data_store (in_runtime next) (address p ob + i) (kind_size k) rm.low top) (beside_free p s.store.shape g.stack (mark s.frame) (marks s.callers) (b.y 2) ob i k r.mapped r.ordered b.regs.stack cell) in
+    let step = stores {frames = g.frames} p.image m next b.y (storing (store_op k) base from imm) (address p ob + i) (kind_size k) (b.y from) r.fixed h (store_row k next (b.y base) (b.y from) imm ∙ ap (λ a. Stores a (kind_size k) (b.y from)) at) rm.place (output_written m (address p ob + i) (kind_size k) (b.y from) rm.low top) (data_store (in_runtime next) (address p ob + i) (kind_size k) rm.low top) (beside_free p s.store.shape g.stack (mark s.frame) (marks s.callers) (b.y 2) ob i k r.mapped r.ordered b.regs.stack cell) in
     let t : Touches p (Writes site s.frame.active ob i ∷ []) (Stored (address p ob + i) (kind_size k) ∷ []) = subst (λ z. Touches p (Writes site s.frame.active ob i ∷ []) (Stored (address p ob + i) z ∷ [])) size (Writing site s.frame.active ob i [] [] Nothing) in
     let value : Means p q.taken (back_word k (b.y from)) = means_at p q.taken q.taken (back_word k (c.x from)) _ refl (ap (back_word k) (b.kept from no5)) q.value in
     subst (λ (z : Store). Advanced p u g s.fuel 3 c m (record s { frame = with_rest s.frame rest; store = z }) (Writes site s.frame.active ob i ∷ [])) (sym q.write.is)
@@ -180,7 +180,7 @@ writes_after p u g at0 s c m r from w base imm next k site o rest no5 size b h c
       ts = Stored (address p ob + i) (kind_size k) ∷ [];
       touches = subst (λ z. Touches p (Writes site s.frame.active ob i ∷ []) z) (sym (heard_store (address p ob + i) (kind_size k) rm.low (let z = rm.high in omega arith))) t;
       orderly = store_orderly (address p ob + i) (kind_size k) rm.low top;
-      reach = join b.n 1 [] (Stored (address p ob + i) (kind_size k) ∷ []) _ _ _ m m k' b.reach step;
+      reach = join b.n 1 [] (Stored (address p ob + i) (kind_size k) ∷ []) _ _ _ m m k' (still b.reach) step;
       rel = record {
         fixed = write_fixed p.image m (address p ob + i) (kind_size k) (b.y from) rm.low r.fixed;
         regs = b.regs;

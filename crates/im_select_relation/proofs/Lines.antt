@@ -18,7 +18,7 @@ use Rattle.im_rv_reach.specs.Plain.{returns_by}
 use Rattle.im_rv_reach.specs.Reach.{plus}
 use Rattle.im_rv_reach.specs.Instructions.{Holds, with_immediate, on_registers, storing, upper, jumping}
 use Rattle.im_rv_reach.specs.Routines.{Done, Called}
-use Rattle.im_rv_reach.proofs.Reach.{join, next_pc, no_back, leaps}
+use Rattle.im_rv_reach.proofs.Reach.{still, join, next_pc, no_back, leaps}
 use Rattle.im_select_relation.specs.OperatorTables.{IsPromoted, by_sign, commutes, store_op, operation}
 use Rattle.im_select_relation.proofs.Words.{word_small}
 use Rattle.im_select_relation.proofs.Arithmetic.{negated_word}
@@ -151,7 +151,7 @@ served_after p u g l s c m r rest target imm fuel output input output' input' v 
     let a : ℕ = sum_of c.pc 4 in
     let x : ℕ → ℕ = with_reg c.x 1 a in
     let next : x 1 ≡ c.pc + 4 = same_reg c.x 1 a (omega arith) ∙ next_pc p.image c.pc (jumping 1 imm) h in
-    let go = leaps p.image m c.pc c.x (jumping 1 imm) a target r.fixed h (ap (Puts a) lands) (no_back c.pc (jumping 1 imm) m target refl) in
+    let go = leaps {frames = g.frames} p.image m c.pc c.x (jumping 1 imm) a target r.fixed h (ap (Puts a) lands) (no_back c.pc (jumping 1 imm) m target refl) (inl refl) in
     record {
       n = plus 1 d.n;
       worth = omega arith;
@@ -161,7 +161,7 @@ served_after p u g l s c m r rest target imm fuel output input output' input' v 
       ts = d.ts;
       touches = serves_touches p d.flips (heard d.ts) d.flips_few d.system;
       orderly = d.orderly;
-      reach = join 1 d.n [] d.ts _ _ _ m m d.k go d.reach;
+      reach = join 1 d.n [] d.ts _ _ _ m m d.k go (still d.reach);
       rel = routine_rel p u g l.at.first s c m r target (x 1) x output input d rest _ fuel output' input' eo ei (subst (λ z. Stands p r.f.blocks.items s.frame.function (frame_of g s.frame.function) z rest s.frame.spot.exit) (sym next) code)
           (only_result p (kept_by (slice_get u.functions.items s.frame.function) s.frame.registers) (pointer_at s.frame.active.depth) 10 v d.y (lost_by p u g l s.frame.function r.f s.frame.registers r.is) d.zero_reg (d.stack ∙ other_reg c.x 1 a 2 (omega arith) ∙ r.regs.stack) mean);
     }
@@ -188,7 +188,7 @@ cut_line p u g l s c m r cause rest en imm entry lands h code =
     let a : ℕ = sum_of c.pc 4 in
     let x : ℕ → ℕ = with_reg c.x 3 a in
     let next : x 3 ≡ c.pc + 4 = same_reg c.x 3 a (omega arith) ∙ next_pc p.image c.pc (jumping 3 imm) h in
-    let go = leaps p.image m c.pc c.x (jumping 3 imm) a (p.checkpoint en) r.fixed h (ap (Puts a) lands) (no_back c.pc (jumping 3 imm) m (p.checkpoint en) refl) in
+    let go = leaps {frames = g.frames} p.image m c.pc c.x (jumping 3 imm) a (p.checkpoint en) r.fixed h (ap (Puts a) lands) (no_back c.pc (jumping 3 imm) m (p.checkpoint en) refl) (inl refl) in
     let q = l.at.saves en entry m x (called p u g s c m r 3 imm (omega arith) h) in
     let d = q.0 in
     record {
@@ -200,7 +200,7 @@ cut_line p u g l s c m r cause rest en imm entry lands h code =
       ts = d.ts;
       touches = subst (λ z. Touches p (Cuts ∷ []) z) (sym (d.system ∙ ap (λ z. replicate z Flipped) q.1)) (Cutting [] [] Nothing);
       orderly = d.orderly;
-      reach = join 1 d.n [] d.ts _ _ _ m m d.k go d.reach;
+      reach = join 1 d.n [] d.ts _ _ _ m m d.k go (still d.reach);
       rel = routine_rel p u g l.at.first s c m r (p.checkpoint en) (x 3) x (shown m) (left m) d rest s.frame.registers s.fuel s.output s.input r.output r.input (subst (λ z. Stands p r.f.blocks.items s.frame.function (frame_of g s.frame.function) z rest s.frame.spot.exit) (sym next) code)
           (record {
             zero_reg = d.zero_reg;

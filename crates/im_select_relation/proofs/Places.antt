@@ -39,7 +39,7 @@ pub record Ready (p : Linking) (registers : ℕ → Value) (sp : ℕ) (m : Mem) 
   pub n : ℕ
   pub few : n ≤ 2
   pub y : ℕ → ℕ
-  pub reach : Reach n [] (record { pc = pc; x = x }) m (record { pc = next; x = y }) m
+  pub reach : Reach [] n [] (record { pc = pc; x = x }) m (record { pc = next; x = y }) m
   pub regs : RegsMean p registers sp y
   pub kept : (i : ℕ) → i ≢ 5 → y i ≡ x i
   pub sum : sum_of (y base) imm ≡ w
@@ -63,7 +63,7 @@ displaced p registers sp m pc x r n base imm next fixed regs no5 (Far k hi lo sp
       n = 2;
       few = omega arith;
       y = y;
-      reach = join 1 1 [] [] _ _ _ m m m (puts p.image m pc x (upper 5 hi) a fixed h refl refl) (puts p.image m (pc + 4) x1 (on_registers Add 5 5 r) b fixed l refl refl);
+      reach = join 1 1 [] [] _ _ _ m m m (puts p.image m pc x (upper 5 hi) a fixed h refl refl (inl refl)) (puts p.image m (pc + 4) x1 (on_registers Add 5 5 r) b fixed l refl refl (inl refl));
       regs = set_scratch p registers sp x1 5 b (omega arith) (omega arith) (omega arith) (set_scratch p registers sp x 5 a (omega arith) (omega arith) (omega arith) regs);
       kept = λ i ne. other_reg x1 5 b i ne ∙ other_reg x 5 a i ne;
       sum =
@@ -106,7 +106,7 @@ based p registers by store frames m pc x place base imm next deep near some fixe
         n = 1;
         few = omega arith;
         y = with_reg x 5 a;
-        reach = puts p.image m pc x (upper 5 hi) a fixed h refl refl;
+        reach = puts p.image m pc x (upper 5 hi) a fixed h refl refl (inl refl);
         regs = set_scratch p registers (pointer_at by.depth) x 5 a (omega arith) (omega arith) (omega arith) regs;
         kept = λ i ne. other_reg x 5 a i ne;
         sum = ap (λ z. sum_of z lo) (same_reg x 5 a (omega arith));

@@ -102,10 +102,10 @@ pub record Advanced (p : Linking) (u : Code) (g : Setting) (fuel words : ℕ) (c
   pub ts : List Touch
   pub touches : Touches p events (heard ts)
   pub orderly : IsOrderly ts
-  pub reach : Reach n ts c m d k
+  pub reach : Reach g.frames n ts c m d k
   pub rel : Rel p u g s d k
 
-pub record Finished (p : Linking) (u : Code) (words : ℕ) (c : Cpu) (m : Mem) (reason : ℕ) (status : ℤ) (output : List ℕ) (shows : List Variable) (events : List Event) : Type 0 where
+pub record Finished (p : Linking) (u : Code) (g : Setting) (words : ℕ) (c : Cpu) (m : Mem) (reason : ℕ) (status : ℤ) (output : List ℕ) (shows : List Variable) (events : List Event) : Type 0 where
   pub n : ℕ
   pub some : 0 < n
   pub few : n ≤ words + 3
@@ -113,7 +113,7 @@ pub record Finished (p : Linking) (u : Code) (words : ℕ) (c : Cpu) (m : Mem) (
   pub touches : Touches p events (heard ts)
   pub orderly : IsOrderly ts
   pub k : Mem
-  pub stopped : Stopped n ts c m k
+  pub stopped : Stopped g.frames n ts c m k
   pub reason_is : little k 8 4 ≡ reason
   pub status_is : little k 4 4 ≡ word status
   pub output_is : shown k ≡ output
@@ -121,7 +121,7 @@ pub record Finished (p : Linking) (u : Code) (words : ℕ) (c : Cpu) (m : Mem) (
 
 abbrev pub After : Linking → Code → Setting → ℕ → ℕ → Cpu → Mem → Next → Type 0
 After p u g fuel words c m (Goes s events) = Advanced p u g fuel words c m s events
-After p u g fuel words c m (Stops (End reason status output shows) events) = Finished p u words c m reason status output shows events
+After p u g fuel words c m (Stops (End reason status output shows) events) = Finished p u g words c m reason status output shows events
 After p u g fuel words c m (Stops (More output) events) = (events ≡ []) × (shown m ≡ output)
 After p u g fuel words c m (Stops (Undef why) events) = Unit {0}
 

@@ -18,7 +18,7 @@ use Rattle.im_rv_reach.specs.Orderly.{IsOrderly}
 use Rattle.im_rv_reach.specs.Plain.{IsPlain}
 use Rattle.im_rv_reach.specs.Reach.{plus, Reach}
 use Rattle.im_rv_reach.specs.Instructions.{jumping}
-use Rattle.im_rv_reach.proofs.Reach.{plus_is, nothing, no_back, leaps, begins_trans, before_or_after}
+use Rattle.im_rv_reach.proofs.Reach.{still, plus_is, nothing, no_back, leaps, begins_trans, before_or_after}
 use Rattle.im_rv_reach.proofs.Orderly.{joined}
 use Rattle.im_select_relation.specs.OperatorTables.{cell_word}
 use Rattle.im_select_relation.proofs.Words.{word_small}
@@ -65,7 +65,7 @@ same_regs p registers sp x y m same = record {
 }
 
 -- to a block of the function
-to_block : (p : Linking) (u : Code) (g : Setting) → Premises p u g → (s : State) (c : Cpu) (m : Mem) (r : Rel p u g s c m) (words n b more fuel : ℕ) (y : ℕ → ℕ) → more ≤ fuel + n → n ≤ words → Reach n [] c m (record { pc = p.place s.frame.function b; x = y }) m → ((i : ℕ) → y i ≡ c.x i) → After p u g more words c m (goes_to u g b fuel s)
+to_block : (p : Linking) (u : Code) (g : Setting) → Premises p u g → (s : State) (c : Cpu) (m : Mem) (r : Rel p u g s c m) (words n b more fuel : ℕ) (y : ℕ → ℕ) → more ≤ fuel + n → n ≤ words → Reach [] n [] c m (record { pc = p.place s.frame.function b; x = y }) m → ((i : ℕ) → y i ≡ c.x i) → After p u g more words c m (goes_to u g b fuel s)
 to_block p u g l s c m r words n b more fuel y worth few reach kept =
     checked_after p u g more words c m _ _ (λ f is0.
     checked_after p u g more words c m _ _ (λ block found0.
@@ -80,7 +80,7 @@ to_block p u g l s c m r words n b more fuel y worth few reach kept =
       ts = [];
       touches = Nothing;
       orderly = refl;
-      reach = reach;
+      reach = still reach;
       rel = moved_rel p u g s c m r (p.place s.frame.function b) y (at_block b block) s.frame.registers fuel (subst (λ (z : Function). Stands p z.blocks.items s.frame.function (frame_of g s.frame.function) (p.place s.frame.function b) block.lines.items block.exit) (same_function s.frame.function u f r.f is r.is) ((l.at.functions s.frame.function f is).blocks b block found)) (same_regs p s.frame.registers (pointer_at s.frame.active.depth) c.x y r.regs kept);
     }))
 
@@ -316,7 +316,7 @@ waited_brings p u g l s c m w =
       ts = [];
       touches = Nothing;
       orderly = refl;
-      reach = q.reach;
+      reach = still q.reach;
       stood = Shaded next _ m w.registers (alike_in u next w.registers r.f r.is (λ x n h. w.alike x n (ap (λ z. lives_in (reads_first r.f.blocks.items n) z x) there ∙ h)))
           (moved_rel p u g (shaded s w.registers) c m r (p.place s.frame.function b) q.y (at_block b block) w.registers s.fuel ((l.at.functions s.frame.function r.f r.is).blocks b block there) (same_regs p w.registers (pointer_at s.frame.active.depth) c.x q.y r.regs q.kept));
     }))))
@@ -525,7 +525,7 @@ heard_append (Stored x n ∷ a) b = heard_two (is_system x) (x == 0) (Stored x n
 heard_append (Flipped ∷ a) b = ap (λ z. Flipped ∷ z) (heard_append a b)
 
 -- what a run of so many steps is on the machine
-pub record Followed (p : Linking) (u : Code) (c : Cpu) (m : Mem) (fuel : ℕ) (o : Outcome) (events run : List Event) (most : ℕ) : Type 0 where
+pub record Followed (p : Linking) (u : Code) (g : Setting) (c : Cpu) (m : Mem) (fuel : ℕ) (o : Outcome) (events run : List Event) (most : ℕ) : Type 0 where
   pub j : ℕ
   pub shows : Shows p u o fuel j (runs j c m)
   pub soon : j ≤ most + 3
@@ -534,13 +534,13 @@ pub record Followed (p : Linking) (u : Code) (c : Cpu) (m : Mem) (fuel : ℕ) (o
   pub touches : Touches p more (heard (touched j c m))
   pub orderly : IsOrderly (touched j c m)
   pub grows : (i : ℕ) → i ≤ j → Begins (shown (runs i c m).mem) (shown (runs j c m).mem)
-  pub plain : (i : ℕ) → i < j → IsPlain (runs i c m).cpu (runs i c m).mem
+  pub plain : (i : ℕ) → i < j → IsPlain g.frames (runs i c m).cpu (runs i c m).mem
 
 begins_end : (a b c : List ℕ) → c ≡ b → Begins a b → Begins a c
 begins_end a b c e h = (h.0, e ∙ h.1)
 
-ended : (p : Linking) (u : Code) (c : Cpu) (m : Mem) (fuel reason : ℕ) (status : ℤ) (words k : ℕ) (output : List ℕ) (shows : List Variable) (events more : List Event) → Finished p u words c m reason status output shows more → Followed p u c m fuel (End reason status output shows) events (events ++ more) (words + k)
-ended p u c m fuel reason status words k output shows events more f = record {
+ended : (p : Linking) (u : Code) (g : Setting) (c : Cpu) (m : Mem) (fuel reason : ℕ) (status : ℤ) (words k : ℕ) (output : List ℕ) (shows : List Variable) (events more : List Event) → Finished p u g words c m reason status output shows more → Followed p u g c m fuel (End reason status output shows) events (events ++ more) (words + k)
+ended p u g c m fuel reason status words k output shows events more f = record {
   j = f.n;
   shows = (
     ap (λ (s : Stepped). s.went) f.stopped.ran,
@@ -558,8 +558,8 @@ ended p u c m fuel reason status words k output shows events more f = record {
   plain = f.stopped.each;
 }
 
-starved : (p : Linking) (u : Code) (c : Cpu) (m : Mem) (fuel words k : ℕ) (output : List ℕ) (events more : List Event) → (more ≡ []) × (shown m ≡ output) → fuel ≡ 0 → Followed p u c m fuel (More output) events (events ++ more) (words + k)
-starved p u c m fuel words k output events more e z = record {
+starved : (p : Linking) (u : Code) (g : Setting) (c : Cpu) (m : Mem) (fuel words k : ℕ) (output : List ℕ) (events more : List Event) → (more ≡ []) × (shown m ≡ output) → fuel ≡ 0 → Followed p u g c m fuel (More output) events (events ++ more) (words + k)
+starved p u g c m fuel words k output events more e z = record {
   j = 0;
   shows = (refl, e.1, omega arith);
   soon = omega arith;
@@ -581,7 +581,7 @@ shows_more p u (More output) n n' j j' r r' e le h = (ap (λ (s : Stepped). s.we
 shows_more p u (Undef why) n n' j j' r r' e le h = absurd h
 
 -- a step, and what follows it
-before_it : (p : Linking) (u : Code) (g : Setting) (s : State) (c : Cpu) (m : Mem) (fuel words : ℕ) (o : Outcome) (events more run : List Event) (most : ℕ) (a : Brought p u g fuel words c m s more) → Followed p u a.d a.k s.fuel o (events ++ more) run most → Followed p u c m fuel o events run (words + most)
+before_it : (p : Linking) (u : Code) (g : Setting) (s : State) (c : Cpu) (m : Mem) (fuel words : ℕ) (o : Outcome) (events more run : List Event) (most : ℕ) (a : Brought p u g fuel words c m s more) → Followed p u g a.d a.k s.fuel o (events ++ more) run most → Followed p u g c m fuel o events run (words + most)
 before_it p u g s c m fuel words o events more run most a f = record {
   j = plus a.n f.j;
   shows = shows_more p u o s.fuel fuel f.j (plus a.n f.j) (runs f.j a.d a.k) _ (a.reach.ran f.j) (λ k. let q = plus_is a.n f.j in let z = a.worth in omega arith) f.shows;
@@ -603,7 +603,7 @@ before_it p u g s c m fuel words o events more run most a f = record {
     | inr x ↦ (
         let q = plus_is a.n f.j in
         let e : i ≡ plus a.n (i - a.n) = (let h = plus_is a.n (i - a.n) in omega arith) in
-        subst (λ (z : Stepped). IsPlain z.cpu z.mem) (sym (ap (λ z. runs z c m) e ∙ a.reach.ran (i - a.n))) (f.plain (i - a.n) (omega arith))
+        subst (λ (z : Stepped). IsPlain g.frames z.cpu z.mem) (sym (ap (λ z. runs z c m) e ∙ a.reach.ran (i - a.n))) (f.plain (i - a.n) (omega arith))
         )
   ];
 }
@@ -611,18 +611,18 @@ before_it p u g s c m fuel words o events more run most a f = record {
 pub over_is : (o q : Outcome) (a b : List Event) → Over o a ≡ Over q b → (o ≡ q) × (a ≡ b)
 over_is o q a b e = (cc, cc)
 
-followed_at : (p : Linking) (u : Code) (c : Cpu) (m : Mem) (fuel : ℕ) (o q : Outcome) (events a b : List Event) (most : ℕ) → Over o a ≡ Over q b → Followed p u c m fuel o events a most → Followed p u c m fuel q events b most
-followed_at p u c m fuel o q events a b most e f =
+followed_at : (p : Linking) (u : Code) (g : Setting) (c : Cpu) (m : Mem) (fuel : ℕ) (o q : Outcome) (events a b : List Event) (most : ℕ) → Over o a ≡ Over q b → Followed p u g c m fuel o events a most → Followed p u g c m fuel q events b most
+followed_at p u g c m fuel o q events a b most e f =
     let k = over_is o q a b e in
-    subst (λ z. Followed p u c m fuel q events z most) k.1 (subst (λ z. Followed p u c m fuel z events a most) k.0 f)
+    subst (λ z. Followed p u g c m fuel q events z most) k.1 (subst (λ z. Followed p u g c m fuel z events a most) k.0 f)
 
-pub follow_next : (p : Linking) (u : Code) (g : Setting) (k : ℕ) (o : Outcome) (run : List Event) → ((s : State) (c : Cpu) (m : Mem) (events : List Event) → Stood p u g s c m → exec u g k s events ≡ Over o run → Followed p u c m s.fuel o events run (spent u g (steps p) k s)) → (next : Next) (c : Cpu) (m : Mem) (fuel words : ℕ) (events : List Event) → IsDefined o → Paid fuel next → Brings p u g fuel words c m next → goes_on next (exec u g k) events ≡ Over o run → Followed p u c m fuel o events run (words + after next (spent u g (steps p) k))
+pub follow_next : (p : Linking) (u : Code) (g : Setting) (k : ℕ) (o : Outcome) (run : List Event) → ((s : State) (c : Cpu) (m : Mem) (events : List Event) → Stood p u g s c m → exec u g k s events ≡ Over o run → Followed p u g c m s.fuel o events run (spent u g (steps p) k s)) → (next : Next) (c : Cpu) (m : Mem) (fuel words : ℕ) (events : List Event) → IsDefined o → Paid fuel next → Brings p u g fuel words c m next → goes_on next (exec u g k) events ≡ Over o run → Followed p u g c m fuel o events run (words + after next (spent u g (steps p) k))
 follow_next p u g k o run rec (Goes s more) c m fuel words events right paid a e = before_it p u g s c m fuel words o events more run (spent u g (steps p) k s) a (rec s a.d a.k (events ++ more) a.stood e)
-follow_next p u g k o run rec (Stops (End reason status output shows) more) c m fuel words events right paid a e = followed_at p u c m fuel (End reason status output shows) o events (events ++ more) run (words + 0) e (ended p u c m fuel reason status words 0 output shows events more a)
-follow_next p u g k o run rec (Stops (More output) more) c m fuel words events right paid a e = followed_at p u c m fuel (More output) o events (events ++ more) run (words + 0) e (starved p u c m fuel words 0 output events more a paid)
+follow_next p u g k o run rec (Stops (End reason status output shows) more) c m fuel words events right paid a e = followed_at p u g c m fuel (End reason status output shows) o events (events ++ more) run (words + 0) e (ended p u g c m fuel reason status words 0 output shows events more a)
+follow_next p u g k o run rec (Stops (More output) more) c m fuel words events right paid a e = followed_at p u g c m fuel (More output) o events (events ++ more) run (words + 0) e (starved p u g c m fuel words 0 output events more a paid)
 follow_next p u g k o run rec (Stops (Undef why) more) c m fuel words events right paid a e = absurd (subst IsDefined (sym (over_is (Undef why) o (events ++ more) run e).0) right)
 
-pub follow : (p : Linking) (u : Code) (g : Setting) → Premises p u g → (k : ℕ) (s : State) (c : Cpu) (m : Mem) (o : Outcome) (events run : List Event) → IsDefined o → Stood p u g s c m → exec u g k s events ≡ Over o run → Followed p u c m s.fuel o events run (spent u g (steps p) k s)
+pub follow : (p : Linking) (u : Code) (g : Setting) → Premises p u g → (k : ℕ) (s : State) (c : Cpu) (m : Mem) (o : Outcome) (events run : List Event) → IsDefined o → Stood p u g s c m → exec u g k s events ≡ Over o run → Followed p u g c m s.fuel o events run (spent u g (steps p) k s)
 follow p u g l zero s c m o events run right r e = absurd cc
 follow p u g l (suc k) s c m o events run right r e = follow_next p u g k o run (λ s' d h more r' e'. follow p u g l k s' d h o more run right r' e') (step u g s) c m s.fuel (spot_weight (steps p) s.frame.spot) events right (step_paid u g s) (stood_brings p u g l s c m r) e
 
@@ -699,7 +699,7 @@ slots_first u o n sh e h = let k = static_lies u o sh h in absurd (none (ap (sta
 
 begin_after : (p : Linking) (u : Code) (g : Setting) → Premises p u g → (x : ℕ → ℕ) (n : ℕ) → x 0 ≡ 0 → x 2 ≡ 3145728 → After p u g n 10 (record { pc = p.begin; x = x }) p.image (start u g n)
 begin_after p u g l x n x0 x2 = first_after p u g n n 9 (record { pc = p.begin; x = x }) (record { pc = p.entry u.main; x = with_reg x 1 (sum_of p.begin 4) }) p.image _ (omega arith)
-    (leaps p.image p.image p.begin x (jumping 1 l.at.call) (sum_of p.begin 4) (p.entry u.main) (λ a above less. refl) l.at.begins (ap (Puts (sum_of p.begin 4)) l.at.lands) (no_back p.begin (jumping 1 l.at.call) p.image (p.entry u.main) refl))
+    (leaps p.image p.image p.begin x (jumping 1 l.at.call) (sum_of p.begin 4) (p.entry u.main) (λ a above less. refl) l.at.begins (ap (Puts (sum_of p.begin 4)) l.at.lands) (no_back p.begin (jumping 1 l.at.call) p.image (p.entry u.main) refl) (inl refl))
     (let h = l.at.begins in
     let low = h.low in
     enter_after p u g l (before u g n) u.main n (p.begin + 4) 0 0 (λ r. Unset) [] p.image (with_reg x 1 (sum_of p.begin 4)) (inr refl) (λ a above less. refl) l.at.words l.at.silent l.at.input

@@ -132,12 +132,12 @@ pub record Brought (p : Linking) (u : Code) (g : Setting) (fuel words : ℕ) (c 
   pub ts : List Touch
   pub touches : Touches p events (heard ts)
   pub orderly : IsOrderly ts
-  pub reach : Reach n ts c m d k
+  pub reach : Reach g.frames n ts c m d k
   pub stood : Stood p u g s d k
 
 abbrev pub Brings : Linking → Code → Setting → ℕ → ℕ → Cpu → Mem → Next → Type 0
 Brings p u g fuel words c m (Goes s events) = Brought p u g fuel words c m s events
-Brings p u g fuel words c m (Stops (End reason status output shows) events) = Finished p u words c m reason status output shows events
+Brings p u g fuel words c m (Stops (End reason status output shows) events) = Finished p u g words c m reason status output shows events
 Brings p u g fuel words c m (Stops (More output) events) = (events ≡ []) × (shown m ≡ output)
 Brings p u g fuel words c m (Stops (Undef why) events) = Unit {0}
 

@@ -61,7 +61,7 @@ premises p u g w l = record { at = l; cells = λ i f is a sh h. function_cells u
 follows_at : (p : Linking) (u : Code) (g : Setting) (x : ℕ → ℕ) (n : ℕ) (o : Outcome) (run : List Event) → Premises p u g → x 0 ≡ 0 → x 2 ≡ 3145728 → IsDefined o → (r : Runs u g n o run) → Follows p u g (record { pc = p.begin; x = x }) n o run r.steps
 follows_at p u g x n o run l x0 x2 right r =
     let c : Cpu = record { pc = p.begin; x = x } in
-    let f : Followed p u c p.image n o [] run (10 + after (start u g n) (spent u g (steps p) r.steps)) =
+    let f : Followed p u g c p.image n o [] run (10 + after (start u g n) (spent u g (steps p) r.steps)) =
     follow_next p u g r.steps o run (λ s d h events rel e. follow p u g l r.steps s d h o events run right rel e) (start u g n) c p.image n 10 [] right (start_paid u g n) (begin_brings p u g l x n x0 x2) r.over in
     let t : Touches p run (heard (touched f.j c p.image)) = subst (λ z. Touches p z (heard (touched f.j c p.image))) (sym f.split) f.touches in
     record {

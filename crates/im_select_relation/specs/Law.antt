@@ -95,8 +95,9 @@ pub record Follows (p : Linking) (u : Code) (g : Setting) (c : Cpu) (n : ℕ) (o
   pub calm : (i at : ℕ) → i ≤ j → (runs i c p.image).went ≢ Faulted at
   -- sections touch the low page, the input and the output in order
   pub orderly : IsOrderly (touched j c p.image)
-  -- each step stands in the code, leaves it, INDEX and the register buffers alone, and returns behind calls
-  pub plain : (i : ℕ) → i < j → IsPlain (runs i c p.image).cpu (runs i c p.image).mem
+  -- each step stands in the code, leaves it, INDEX and the register buffers alone, moves the stack pointer by a function's frame or
+  -- not at all, and returns behind calls
+  pub plain : (i : ℕ) → i < j → IsPlain g.frames (runs i c p.image).cpu (runs i c p.image).mem
 
 -- the machine follows each run of the unit whose outcome is defined
 abbrev pub SelectKeeps : Type 0
